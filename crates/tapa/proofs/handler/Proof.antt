@@ -1,0 +1,20 @@
+-- `tapa::handler` meets its contract. Assumes nothing.
+use Rattle.tapa.specs.Address.{handlerOf}
+use borrow.Author.Needs.{needs}
+use Rattle.tapa.proofs.handler.Statement.{statement}
+use Rattle.tapa.proofs.handler.Tie as tie
+use Rattle.tapa.proofs.handler.Reads as reads
+use Rattle.tapa.proofs.handler.Lts as lts
+
+mul-result : tie.Need-mul-result
+mul-result c = search needs
+
+add-result : tie.Need-add-result
+add-result c = search needs
+
+returns : tie.Need-returns
+unfolding handlerOf
+returns c = search needs
+
+pub handler-spec : {M : Type 1} → statement M
+handler-spec = tie.close (tie.spec mul-result add-result returns)

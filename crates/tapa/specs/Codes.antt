@@ -1,0 +1,72 @@
+-- The response codes that the router, the event queue and the PSAM parts make, by TAPA's names, and the types that they know by name.
+use Prim.Native.Nat.{ℕ}
+
+-- ---- codes
+
+abbrev pub done : ℕ
+done = 0x0000
+
+-- rule a: 'Table 1's code for an unknown destination'
+abbrev pub invalidDestination : ℕ
+invalidDestination = 0xFFF1
+
+-- rule d, and give up
+abbrev pub handlerError : ℕ
+handlerError = 0xFFF3
+
+-- rule e
+abbrev pub handlerBusy : ℕ
+handlerBusy = 0xFFF5
+
+-- rule f
+abbrev pub insufficientResources : ℕ
+insufficientResources = 0xFFF6
+
+-- rule c
+abbrev pub mustBeOpened : ℕ
+mustBeOpened = 0xFFF7
+
+-- rule b, and a command of a wrong shape
+abbrev pub unsupportedOperation : ℕ
+unsupportedOperation = 0xFFFB
+
+-- the event queue is empty
+abbrev pub queueEmpty : ℕ
+queueEmpty = 0xFF72
+
+-- no event of the queue meets the search
+abbrev pub noMatch : ℕ
+noMatch = 0xFF73
+
+-- ---- types
+
+-- 'A response has type 'FF'.'
+abbrev pub response : ℕ
+response = 0xFF
+
+abbrev pub iccCommand : ℕ
+iccCommand = 0x42
+
+abbrev pub addEvent : ℕ
+addEvent = 0xC0
+
+abbrev pub getEvent : ℕ
+getEvent = 0xC1
+
+abbrev pub findEvent : ℕ
+findEvent = 0xC2
+
+abbrev pub flushQueue : ℕ
+flushQueue = 0xC3
+
+abbrev pub openHandler : ℕ
+openHandler = 0xF0
+
+abbrev pub closeHandler : ℕ
+closeHandler = 0xF1
+
+-- ---- an address
+
+-- 'category 07 only as '0700''
+abbrev pub eventHandler : ℕ
+eventHandler = 0x0700

@@ -1,0 +1,5 @@
+pub mod Address
+pub mod Codes
+pub mod Numbers
+pub mod Refusals
+pub mod Types

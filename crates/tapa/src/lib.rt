@@ -1,0 +1,186 @@
+// The words of TAPA: addresses, message types, response codes, and the refusals by name.
+//
+// An address is a category byte and a sub-address byte. The sub-address's top bit asks for an
+// enciphered response; the handler is the address with that bit cleared. "Handler" always means
+// the cleared form, "exact" always means all sixteen bits.
+//
+// A refusal has a name here and a number on the page; `number` goes from the one to the other.
+ghost use mathlib.Core.Path.{_≡_};
+ghost use Prim.Native.Nat.{_+_, _*_};
+ghost use Rattle.tapa.specs.Address.{categoryOf, handlerOf, multi};
+ghost use Rattle.tapa.specs.Refusals.{numberOf};
+ghost use Rattle.tapa.specs.Types.{common, own, known};
+
+// The refusals 1 to 18, in the page's order.
+pub enum Refusal {
+    TooShort,
+    TooLong,
+    SizeDisagrees,
+    NotInTable,
+    ThreadAbove7,
+    NoResponseCode,
+    StrayResponse,
+    WrongAsker,
+    BufferTooSmall,
+    EventCannotBeTaken,
+    RowCountOrShape,
+    Repeat,
+    TooManyMulti,
+    NothingToGiveUp,
+    NotThisPartsMessage,
+    StandsInAWait,
+    NoSourceKept,
+    StatusNotUsable,
+}
+
+// Response codes, by TAPA's names.
+pub const DONE: u16 = 0x0000;
+
+pub const INVALID_DESTINATION: u16 = 0xFFF1;
+
+pub const HANDLER_ERROR: u16 = 0xFFF3;
+
+pub const HANDLER_BUSY: u16 = 0xFFF5;
+
+pub const INSUFFICIENT_RESOURCES: u16 = 0xFFF6;
+
+pub const MUST_BE_OPENED: u16 = 0xFFF7;
+
+pub const UNSUPPORTED_OPERATION: u16 = 0xFFFB;
+
+pub const QUEUE_EMPTY: u16 = 0xFF72;
+
+pub const NO_MATCH: u16 = 0xFF73;
+
+// Message types that a part of the router knows by name.
+pub const RESPONSE: u8 = 0xFF;
+
+pub const ICC_COMMAND: u8 = 0x42;
+
+pub const ADD_EVENT: u8 = 0xC0;
+
+pub const GET_EVENT: u8 = 0xC1;
+
+pub const FIND_EVENT: u8 = 0xC2;
+
+pub const FLUSH_QUEUE: u8 = 0xC3;
+
+pub const OPEN_HANDLER: u8 = 0xF0;
+
+pub const CLOSE_HANDLER: u8 = 0xF1;
+
+// The one address that category 07 may have.
+pub const EVENT_HANDLER: u16 = 0x0700;
+
+// The page's number of a refusal.
+pub fn number(refusal: Refusal) -> u8
+    ensures { λ r. ⌜ r ≡ numberOf refusal ⌝ }
+{
+    match refusal {
+        Refusal::TooShort => 1,
+        Refusal::TooLong => 2,
+        Refusal::SizeDisagrees => 3,
+        Refusal::NotInTable => 4,
+        Refusal::ThreadAbove7 => 5,
+        Refusal::NoResponseCode => 6,
+        Refusal::StrayResponse => 7,
+        Refusal::WrongAsker => 8,
+        Refusal::BufferTooSmall => 9,
+        Refusal::EventCannotBeTaken => 10,
+        Refusal::RowCountOrShape => 11,
+        Refusal::Repeat => 12,
+        Refusal::TooManyMulti => 13,
+        Refusal::NothingToGiveUp => 14,
+        Refusal::NotThisPartsMessage => 15,
+        Refusal::StandsInAWait => 16,
+        Refusal::NoSourceKept => 17,
+        Refusal::StatusNotUsable => 18,
+    }
+}
+
+// Two bytes as a number, the high one first.
+pub fn pair(high: u8, low: u8) -> u16
+    ensures { λ r. ⌜ r ≡ high * 256 + low ⌝ }
+{
+    high as u16 * 256 + low as u16
+}
+
+pub fn category(address: u16) -> u8
+    ensures { λ r. ⌜ r ≡ categoryOf address ⌝ }
+{
+    (address / 256) as u8
+}
+
+// The address with the top bit of its sub-address cleared.
+pub fn handler(address: u16) -> u16
+    ensures { λ r. ⌜ r ≡ handlerOf address ⌝ }
+{
+    address / 256 * 256 + address % 256 % 128
+}
+
+// Whether a handler takes one command a thread, and not one altogether.
+pub fn is_multi(address: u16) -> bool
+    ensures { λ r. ⌜ r ≡ multi address ⌝ }
+{
+    address / 256 <= 1
+}
+
+// Whether a type is handler-independent (section 4.4): every category knows these.
+fn is_common(kind: u8) -> bool
+    ensures { λ r. ⌜ r ≡ common kind ⌝ }
+{
+    match kind {
+        0xF0..=0xF1 | 0xF3..=0xF5 => true,
+        _ => false,
+    }
+}
+
+// Whether a type is one of a category's own.
+fn is_own(category: u8, kind: u8) -> bool
+    ensures { λ r. ⌜ r ≡ own category kind ⌝ }
+{
+    match category {
+        0 => match kind {
+            0x42..=0x45 | 0x47..=0x48 => true,
+            _ => false,
+        },
+        2 => match kind {
+            0x40..=0x47 => true,
+            _ => false,
+        },
+        3 => match kind {
+            0x60..=0x61 | 0x63..=0x6A | 0x6C | 0x80 | 0x82 => true,
+            _ => false,
+        },
+        4 => match kind {
+            0x61 | 0x63..=0x64 | 0x80..=0x82 => true,
+            _ => false,
+        },
+        5 => match kind {
+            0x90..=0x98 => true,
+            _ => false,
+        },
+        6 => match kind {
+            0xB0..=0xB1 => true,
+            _ => false,
+        },
+        7 => match kind {
+            0xC0..=0xC3 => true,
+            _ => false,
+        },
+        _ => false,
+    }
+}
+
+// Whether the handlers of a category know a message type (Tables 4 to 6).
+pub fn is_known(category: u8, kind: u8) -> bool
+    ensures { λ r. ⌜ r ≡ known category kind ⌝ }
+{
+    if is_own(category, kind) {
+        return true;
+    }
+    if category <= 7 {
+        return is_common(kind);
+    }
+    false
+}
