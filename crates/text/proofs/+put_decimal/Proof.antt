@@ -42,7 +42,7 @@ module _ (t : ℕ) where
   returns : lts.Need-returns claims (put-decimal-at t) put-decimal.Post
   returns c =
       let d = c .before .before .before .last-digit in
-      dec-one _ _ (c .before .before .before .before .before .before .before .args .n) (d .result) (c .before .before .before .before .before .if1 .taken) (d .ensures) (c .before .before .put .ensures)
+      dec-one _ _ (c .before .before .before .before .before .before .before .args .n) (d .result) (omega arith) (d .ensures) (c .before .before .put .ensures)
 
   put-decimal-requires : lts.Need-put-decimal-requires claims (put-decimal-at t) put-decimal.Post
   put-decimal-requires c κs = (omega (arith, c .before .before .before .pre .0), tt)
@@ -59,7 +59,7 @@ module _ (t : ℕ) where
   returns-2 : lts.Need-returns-2 claims (put-decimal-at t) put-decimal.Post
   returns-2 c =
       let d = c .before .before .before .last-digit2 in
-      dec-more _ _ _ (c .before .before .before .before .before .before .before .before .before .before .before .args .n) (d .result) (c .before .before .before .before .before .before .before .before .before .if1 .left) (d .ensures) (c .before .before .before .before .before .before .before .put-decimal .ensures) (c .before .before .put2 .ensures)
+      dec-more _ _ _ (c .before .before .before .before .before .before .before .before .before .before .before .args .n) (d .result) (omega arith) (d .ensures) (c .before .before .before .before .before .before .before .put-decimal .ensures) (c .before .before .put2 .ensures)
 
 pub +put-decimal-spec : {M : Type 1} → statement M
 +put-decimal-spec = close μ-put-decimal λ t. lts.spec (claims t) (put-decimal-at t) put-decimal.Post
