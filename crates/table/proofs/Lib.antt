@@ -1,2 +1,7 @@
+pub mod Counts
+pub mod Desk
 pub mod Judged
+pub mod Marks
+pub mod Once
+pub mod Read
 pub mod Walks
