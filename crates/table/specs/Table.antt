@@ -128,6 +128,10 @@ judgeRows t = checks ((t .more, Refused RowCountOrShape) ∷ []) (judgeTable (he
 
 -- ---- reading lent rows
 
+-- what stands for a row past the end
+abbrev pub noRow : Row
+noRow = record { address = 0; opened = false }
+
 -- every row of a list, in order
 abbrev pub withRows : Rows → List Row → Rows
 withRows t [] = t

@@ -10,9 +10,10 @@
 // A row of an accepted table names its handler: its sub-address has no top bit.
 use tapa::Refusal;
 ghost use mathlib.Core.Path.{_≡_};
-ghost use Prim.Native.Nat.{_≤_};
+ghost use Prim.Native.Nat.{_≤_, _<_};
+ghost use lib.ListN.{length, getD};
 ghost use Rattle.lists.specs.Lists.{someOf, count as countOf};
-ghost use Rattle.table.specs.Table.{listed, openedAt, Columns, Opened, rowsOf, shaped, misshapen, repeats, isMulti, judgeRows, noRows, withRow, setUpWith};
+ghost use Rattle.table.specs.Table.{listed, openedAt, Columns, Opened, rowsOf, shaped, misshapen, repeats, isMulti, judgeRows, noRows, withRow, setUpWith, noRow, rowsRead, setUpOf};
 
 pub struct Row {
     pub address: u16,
@@ -227,4 +228,34 @@ pub fn set_up_with(rows: Rows) -> SetUp
             rows: no_rows(),
         },
     }
+}
+
+// ---- the lent rows
+
+// One lent row, whole.
+fn row_at(rows: &[Row], i: usize) -> Row
+    requires { ⌜ i < length (now rows) ⌝ }
+    ensures { λ r. ⌜ r ≡ getD (now (rows .entry)) i noRow ⌝ }
+{
+    rows[i]
+}
+
+// The lent rows by value, read in order.
+pub fn read_rows(rows: &[Row]) -> Rows
+    ensures { λ r. ⌜ r ≡ rowsRead (now (rows .entry)) ⌝ }
+{
+    let mut held = no_rows();
+    let mut i = 0;
+    while i < rows.len() {
+        held = with_row(held, row_at(rows, i));
+        i += 1;
+    }
+    held
+}
+
+// Table set-up: the lent rows are read, and kept where they are a table.
+pub fn set_up(rows: &[Row]) -> SetUp
+    ensures { λ r. ⌜ r ≡ setUpOf (now (rows .entry)) ⌝ }
+{
+    set_up_with(read_rows(rows))
 }
