@@ -3,5 +3,6 @@ pub mod Desk
 pub mod Judged
 pub mod Marks
 pub mod Once
+pub mod Part
 pub mod Read
 pub mod Walks

@@ -11,7 +11,7 @@
 use tapa::Refusal;
 ghost use mathlib.Core.Path.{_≡_};
 ghost use Prim.Native.Nat.{_≤_, _<_};
-ghost use lib.ListN.{length, getD};
+ghost use lib.ListN.{length, getD, take};
 ghost use Rattle.lists.specs.Lists.{someOf, count as countOf};
 ghost use Rattle.table.specs.Table.{listed, openedAt, Columns, Opened, rowsOf, shaped, misshapen, repeats, isMulti, judgeRows, noRows, withRow, setUpWith, noRow, rowsRead, setUpOf};
 
@@ -258,4 +258,24 @@ pub fn set_up(rows: &[Row]) -> SetUp
     ensures { λ r. ⌜ r ≡ setUpOf (now (rows .entry)) ⌝ }
 {
     set_up_with(read_rows(rows))
+}
+
+// Lends the first rows of an array. No slice of structs stands in its signature, so that
+// whoever calls it needs no proof by hand.
+fn lend(rows: [Row; 17], count: usize) -> SetUp
+    requires { ⌜ count ≤ 17 ⌝ }
+    ensures { λ r. ⌜ r ≡ setUpOf (take count rows) ⌝ }
+{
+    set_up(&rows[..count])
+}
+
+// Set-up with the first rows of one's own. There is one place more than a table has, so that a
+// table that is too long can be lent too.
+pub fn set_up_own(rows: [Row; 17], count: usize) -> SetUp
+    ensures { λ r. ⌜ r ≡ setUpOf (take count rows) ⌝ }
+{
+    if 17 < count {
+        return lend(rows, 17);
+    }
+    lend(rows, count)
 }
