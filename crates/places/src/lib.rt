@@ -122,7 +122,7 @@ fn has_open(place: Place, handler: u16) -> bool
     has(place, handler)
 }
 
-// ---- walks, from the newest place to the oldest
+// ---- what the list is asked; a walk goes from the newest place to the oldest
 
 // The place with a number; past the count it is one of zeros.
 pub fn place_at(list: &[u64; 48], n: usize, at: usize) -> Place
