@@ -138,6 +138,9 @@ pub kept-held : (c : Checked) (t : Rows) → Held t → Held (keptBy c t)
 kept-held Accepted t h = h
 kept-held (Refused r) t h = none-held
 
+pub set-up-held : (rows : List Row) → Held (setUpOf rows .rows)
+set-up-held rows = kept-held (judgeTable rows) (rowsRead rows) (read-held rows)
+
 -- ---- the same said at once
 
 module _ {A : Type 0} (f : Row → A) (d : A) where
