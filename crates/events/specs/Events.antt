@@ -3,7 +3,7 @@ use Prim.Native.Nat.{ℕ, _+_}
 use mathlib.Core.Bool.{Bool, true, false, not, _&&_, _||_, cond}
 use mathlib.Core.List.{List, [], _∷_, _++_}
 use mathlib.Core.Option.{Option, none, some}
-use lib.Dec.{eqb, ltb}
+use lib.Dec.{eqb, ltb, leb}
 use lib.ListN.{length, getD}
 use Rattle.lists.specs.Lists.{checks, first, without, onto}
 use Rattle.tapa.specs.Address.{handlerOf}
@@ -74,7 +74,7 @@ abbrev pub byBoth : ℕ
 byBoth = 3
 
 unfoldable pub knownSearch : ℕ → Bool
-knownSearch by = eqb by byLocation || eqb by byType || eqb by byBoth
+knownSearch by = leb byLocation by && leb by byBoth
 
 -- whether an event meets a search; none meets an unknown search type, and bytes that the type does not use are ignored
 unfoldable pub meets : Search → Event → Bool

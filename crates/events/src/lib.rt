@@ -4,15 +4,17 @@
 // as a command, judged against the events that are held, and only then is anything done. What the
 // calls promise speaks of the list of events alone; how they are kept is said in specs/Places.antt.
 use lists::Found;
-use message::{Head, Reading, Writing};
+use message::Head;
+use message::Reading;
+use message::Writing;
 use tapa::Refusal;
 ghost use mathlib.Core.Path.{_≡_};
 ghost use mathlib.Core.List.{[], _++_, _∷_};
-ghost use Prim.Native.Nat.{_≤_};
+ghost use Prim.Native.Nat.{_+_, _≤_, _<_};
 ghost use lib.ListN.{length};
 ghost use Rattle.lists.specs.Lists.{find, without, withoutAt};
-ghost use Rattle.events.specs.Events.{elsewhere, checked, eventAt, commandOf, knownSearch, meets, likeOf, judge, apply, said, Answers, handled};
-ghost use Rattle.events.specs.Places.{packedOf, eventIn, eventsOf, Lawful, Holds, Handling};
+ghost use Rattle.events.specs.Events.{elsewhere, checked, eventAt, commandOf, knownSearch, meets, likeOf, most, judge, apply, said, handled};
+ghost use Rattle.events.specs.Places.{Packs, eventIn, eventsOf, Lawful, Holds, Allowed, Answers, Handling};
 
 // A type byte and the address where it happened.
 pub struct Event {
@@ -120,17 +122,25 @@ fn read_command(kind: u8, part: &[u8]) -> Command
         }
         return Command::WrongAdd;
     }
-    if kind == tapa::GET_EVENT && size == 0 {
-        return Command::Get;
+    if kind == tapa::GET_EVENT {
+        if size == 0 {
+            return Command::Get;
+        }
+        return Command::Wrong;
     }
-    if kind == tapa::FIND_EVENT && size == 4 {
-        return Command::Find(Search {
-            by: part[0],
-            wanted: event_at(part, 1),
-        });
+    if kind == tapa::FIND_EVENT {
+        if size == 4 {
+            return Command::Find(Search {
+                by: part[0],
+                wanted: event_at(part, 1),
+            });
+        }
+        return Command::Wrong;
     }
-    if kind == tapa::FLUSH_QUEUE && size == 0 {
-        return Command::Flush;
+    if kind == tapa::FLUSH_QUEUE {
+        if size == 0 {
+            return Command::Flush;
+        }
     }
     Command::Wrong
 }
@@ -140,7 +150,10 @@ fn read_command(kind: u8, part: &[u8]) -> Command
 fn is_known_search(by: u8) -> bool
     ensures { λ r. ⌜ r ≡ knownSearch by ⌝ }
 {
-    by == 1 || by == 2 || by == 3
+    match by {
+        1..=3 => true,
+        _ => false,
+    }
 }
 
 fn is_met(search: Search, event: Event) -> bool
@@ -160,7 +173,7 @@ fn is_met(search: Search, event: Event) -> bool
 // ---- an event as a number
 
 fn pack(event: Event) -> u32
-    ensures { λ r. ⌜ r ≡ packedOf event ⌝ }
+    ensures { λ r. ⌜ Packs event r ⌝ }
 {
     event.kind as u32 * 65536 + event.location as u32
 }
@@ -183,5 +196,200 @@ pub fn fresh() -> Queue
     Queue {
         places: [0; 100],
         count: 0,
+    }
+}
+
+impl Queue {
+    // The number of the oldest event that meets a search: how many are newer than it.
+    fn find(self, search: Search) -> Found
+        requires { ⌜ Lawful self ⌝ }
+        ensures { λ r. ⌜ r ≡ find (meets search) (eventsOf self) ⌝ }
+    {
+        let n = self.count;
+        let mut newer = n;
+        while 0 < newer {
+            newer -= 1;
+            let place = n - 1 - newer;
+            if is_met(search, unpack(self.places[place])) {
+                return Found::At(newer);
+            }
+        }
+        Found::Nothing
+    }
+
+    // One event more, where there is room.
+    fn with(self, event: Event) -> Queue
+        requires { ⌜ Lawful self ⌝ }
+        requires { ⌜ self .count < most ⌝ }
+        ensures { λ r. ⌜ Holds r (eventsOf self ++ (event ∷ [])) ⌝ }
+    {
+        let mut next = self;
+        let n = self.count;
+        next.places[n] = pack(event);
+        next.count = n + 1;
+        next
+    }
+
+    // The queue without the event that has this many newer ones; those move down, and the last place is freed.
+    fn without(self, newer: usize) -> Queue
+        requires { ⌜ Lawful self ⌝ }
+        requires { ⌜ newer < self .count ⌝ }
+        ensures { λ r. ⌜ Holds r (withoutAt newer (eventsOf self)) ⌝ }
+    {
+        let mut next = self;
+        let n = self.count;
+        let mut left = newer;
+        while 0 < left {
+            next.places[n - 1 - left] = next.places[n - left];
+            left -= 1;
+        }
+        next.places[n - 1] = 0;
+        next.count = n - 1;
+        next
+    }
+
+    fn judge_find(self, search: Search) -> Outcome
+        requires { ⌜ Lawful self ⌝ }
+        ensures { λ r. ⌜ r ≡ judge (eventsOf self) (Command.Find search) ⌝ }
+    {
+        if !is_known_search(search.by) {
+            return Outcome::Coded(tapa::UNSUPPORTED_OPERATION);
+        }
+        let n = self.count;
+        if n == 0 {
+            return Outcome::Coded(tapa::QUEUE_EMPTY);
+        }
+        match self.find(search) {
+            Found::Nothing => Outcome::Coded(tapa::NO_MATCH),
+            Found::At(newer) => {
+                let place = n - 1 - newer;
+                Outcome::Taken(unpack(self.places[place]))
+            }
+        }
+    }
+
+    fn judge(self, command: Command) -> Outcome
+        requires { ⌜ Lawful self ⌝ }
+        ensures { λ r. ⌜ r ≡ judge (eventsOf self) command ⌝ }
+    {
+        let n = self.count;
+        match command {
+            Command::Add(event) => {
+                if n < 100 {
+                    Outcome::Added(event)
+                } else {
+                    Outcome::Ignored
+                }
+            }
+            Command::WrongAdd => Outcome::Ignored,
+            Command::Get => {
+                if n == 0 {
+                    Outcome::Coded(tapa::QUEUE_EMPTY)
+                } else {
+                    Outcome::Taken(unpack(self.places[0]))
+                }
+            }
+            Command::Find(search) => self.judge_find(search),
+            Command::Flush => Outcome::Emptied,
+            Command::Wrong => Outcome::Coded(tapa::UNSUPPORTED_OPERATION),
+        }
+    }
+
+    // The queue without the oldest event of this type and location.
+    fn taken(self, event: Event) -> Queue
+        requires { ⌜ Lawful self ⌝ }
+        ensures { λ r. ⌜ Holds r (without (meets (likeOf event)) (eventsOf self)) ⌝ }
+    {
+        let search = Search {
+            by: 3,
+            wanted: event,
+        };
+        match self.find(search) {
+            Found::Nothing => self,
+            Found::At(newer) => self.without(newer),
+        }
+    }
+
+    fn apply(self, outcome: Outcome) -> Queue
+        requires { ⌜ Lawful self ⌝ }
+        requires { ⌜ Allowed (eventsOf self) outcome ⌝ }
+        ensures { λ r. ⌜ Holds r (apply outcome (eventsOf self)) ⌝ }
+    {
+        match outcome {
+            Outcome::Added(event) => self.with(event),
+            Outcome::Ignored => self,
+            Outcome::Taken(event) => self.taken(event),
+            Outcome::Emptied => fresh(),
+            Outcome::Coded(_) => self,
+        }
+    }
+}
+
+// ---- the reply
+
+fn reply_code(reply: &mut [u8], head: Head, code: u16) -> Answer
+    requires { ⌜ 13 ≤ length (now reply) ⌝ }
+    ensures { λ r. ⌜ Answers head (said (Outcome.Coded code)) (now (reply .entry)) (now (reply .exit)) r ⌝ }
+{
+    message::respond(reply, head.source, head.destination, head.thread, code);
+    Answer::Reply(10)
+}
+
+fn reply_event(reply: &mut [u8], head: Head, event: Event) -> Answer
+    requires { ⌜ 13 ≤ length (now reply) ⌝ }
+    ensures { λ r. ⌜ Answers head (said (Outcome.Taken event)) (now (reply .entry)) (now (reply .exit)) r ⌝ }
+{
+    let part = [
+        event.kind,
+        (event.location / 256) as u8,
+        (event.location % 256) as u8,
+        0,
+        0,
+    ];
+    match message::write(
+        reply,
+        head.source,
+        head.destination,
+        tapa::RESPONSE,
+        head.thread,
+        &part,
+    ) {
+        Writing::Written(n) => Answer::Reply(n),
+        Writing::Refused(refusal) => Answer::Refused(refusal),
+    }
+}
+
+fn answered(reply: &mut [u8], head: Head, outcome: Outcome) -> Answer
+    requires { ⌜ 13 ≤ length (now reply) ⌝ }
+    ensures { λ r. ⌜ Answers head (said outcome) (now (reply .entry)) (now (reply .exit)) r ⌝ }
+{
+    match outcome {
+        Outcome::Added(_) => Answer::Nothing,
+        Outcome::Ignored => Answer::Nothing,
+        Outcome::Taken(event) => reply_event(reply, head, event),
+        Outcome::Emptied => reply_code(reply, head, tapa::DONE),
+        Outcome::Coded(code) => reply_code(reply, head, code),
+    }
+}
+
+impl Queue {
+    // Takes a message, and hands back what it comes to and the next queue.
+    pub fn handle(self, message: &[u8], reply: &mut [u8]) -> Handled
+        requires { ⌜ Lawful self ⌝ }
+        ensures { λ r. ⌜ Handling (handled (eventsOf self) (now (message .entry)) (now (reply .entry))) (now (reply .exit)) r ⌝ }
+    {
+        match check(message, reply.len()) {
+            Checked::Failed(refusal) => Handled {
+                answer: Answer::Refused(refusal),
+                next: self,
+            },
+            Checked::Passed(head) => {
+                let command = read_command(head.kind, message::data_part(message));
+                let outcome = self.judge(command);
+                let next = self.apply(outcome);
+                let answer = answered(reply, head, outcome);
+                Handled { answer, next }
+            }
+        }
     }
 }
