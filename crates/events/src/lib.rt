@@ -34,6 +34,7 @@ struct Search {
     wanted: Event,
 }
 
+// A message that is the queue's, or why it is not looked at further.
 enum Checked {
     Passed(Head),
     Failed(Refusal),
@@ -58,17 +59,25 @@ enum Outcome {
     Coded(u16),
 }
 
-// The length of the reply, or that there is none.
+// The length of the reply in the lent buffer, or why there is none.
 pub enum Answer {
     Reply(usize),
     Nothing,
     Refused(Refusal),
 }
 
+// What a message came to, beside the queue as it then is.
 pub struct Handled {
     pub answer: Answer,
     pub next: Queue,
 }
+
+// Search types: bit 1 is by location, bit 2 by type, and all others are reserved.
+const BY_LOCATION: u8 = 1;
+
+const BY_TYPE: u8 = 2;
+
+const BY_BOTH: u8 = 3;
 
 // ---- the checks
 
@@ -83,6 +92,7 @@ fn is_elsewhere(head: Head) -> bool
     }
 }
 
+// The checks in their order; `room` is the length of the reply buffer, which takes the longest reply.
 fn check(message: &[u8], room: usize) -> Checked
     ensures { λ r. ⌜ r ≡ checked room (now (message .entry)) ⌝ }
 {
@@ -102,6 +112,7 @@ fn check(message: &[u8], room: usize) -> Checked
 
 // ---- the readers of the data part
 
+// The event whose three bytes stand from a place on.
 fn event_at(part: &[u8], at: usize) -> Event
     requires { ⌜ at + 3 ≤ length (now part) ⌝ }
     ensures { λ r. ⌜ r ≡ eventAt (now (part .entry)) at ⌝ }
@@ -112,6 +123,7 @@ fn event_at(part: &[u8], at: usize) -> Event
     }
 }
 
+// What a type and its data ask; a wrong length is as wrong as an unknown type.
 fn read_command(kind: u8, part: &[u8]) -> Command
     ensures { λ r. ⌜ r ≡ commandOf kind (now (part .entry)) ⌝ }
 {
@@ -147,15 +159,17 @@ fn read_command(kind: u8, part: &[u8]) -> Command
 
 // ---- the search
 
+// Whether a search type has a bit that is known, and none that is reserved.
 fn is_known_search(by: u8) -> bool
     ensures { λ r. ⌜ r ≡ knownSearch by ⌝ }
 {
     match by {
-        1..=3 => true,
+        BY_LOCATION..=BY_BOTH => true,
         _ => false,
     }
 }
 
+// Whether an event meets a search. What the search type does not use is not looked at.
 fn is_met(search: Search, event: Event) -> bool
     ensures { λ r. ⌜ r ≡ meets search event ⌝ }
 {
@@ -163,15 +177,16 @@ fn is_met(search: Search, event: Event) -> bool
     let there = event.location == search.wanted.location;
     let alike = event.kind == search.wanted.kind;
     match by {
-        1 => there,
-        2 => alike,
-        3 => alike && there,
+        BY_LOCATION => there,
+        BY_TYPE => alike,
+        BY_BOTH => alike && there,
         _ => false,
     }
 }
 
 // ---- an event as a number
 
+// The type above the location: an event takes one place.
 fn pack(event: Event) -> u32
     ensures { λ r. ⌜ Packs event r ⌝ }
 {
@@ -248,6 +263,7 @@ impl Queue {
         next
     }
 
+    // Find, in the order of its failures.
     fn judge_find(self, search: Search) -> Outcome
         requires { ⌜ Lawful self ⌝ }
         ensures { λ r. ⌜ r ≡ judge (eventsOf self) (Command.Find search) ⌝ }
@@ -268,6 +284,7 @@ impl Queue {
         }
     }
 
+    // What a command comes to. Nothing is done yet.
     fn judge(self, command: Command) -> Outcome
         requires { ⌜ Lawful self ⌝ }
         ensures { λ r. ⌜ r ≡ judge (eventsOf self) command ⌝ }
@@ -301,7 +318,7 @@ impl Queue {
         ensures { λ r. ⌜ Holds r (without (meets (likeOf event)) (eventsOf self)) ⌝ }
     {
         let search = Search {
-            by: 3,
+            by: BY_BOTH,
             wanted: event,
         };
         match self.find(search) {
@@ -310,6 +327,7 @@ impl Queue {
         }
     }
 
+    // Does what was decided.
     fn apply(self, outcome: Outcome) -> Queue
         requires { ⌜ Lawful self ⌝ }
         requires { ⌜ Allowed (eventsOf self) outcome ⌝ }
@@ -327,6 +345,7 @@ impl Queue {
 
 // ---- the reply
 
+// A response that carries its code alone.
 fn reply_code(reply: &mut [u8], head: Head, code: u16) -> Answer
     requires { ⌜ 13 ≤ length (now reply) ⌝ }
     ensures { λ r. ⌜ Answers head (said (Outcome.Coded code)) (now (reply .entry)) (now (reply .exit)) r ⌝ }
@@ -335,6 +354,7 @@ fn reply_code(reply: &mut [u8], head: Head, code: u16) -> Answer
     Answer::Reply(10)
 }
 
+// A response that carries a found event and the code of success.
 fn reply_event(reply: &mut [u8], head: Head, event: Event) -> Answer
     requires { ⌜ 13 ≤ length (now reply) ⌝ }
     ensures { λ r. ⌜ Answers head (said (Outcome.Taken event)) (now (reply .entry)) (now (reply .exit)) r ⌝ }
@@ -359,6 +379,7 @@ fn reply_event(reply: &mut [u8], head: Head, event: Event) -> Answer
     }
 }
 
+// The reply that an outcome has, if any.
 fn answered(reply: &mut [u8], head: Head, outcome: Outcome) -> Answer
     requires { ⌜ 13 ≤ length (now reply) ⌝ }
     ensures { λ r. ⌜ Answers head (said outcome) (now (reply .entry)) (now (reply .exit)) r ⌝ }
