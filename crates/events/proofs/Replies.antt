@@ -15,7 +15,7 @@ use Rattle.tapa.specs.declared.Refusal.the-variants.{BufferTooSmall}
 use Rattle.message.specs.declared.Head.{Head}
 use Rattle.message.specs.declared.Writing.{Writing}
 use Rattle.message.specs.declared.Writing.the-variants.{Written, Refused as WriteRefused}
-use Rattle.message.specs.Message.{readOf, partOf, responseOf, responded, writingOf, Wrote}
+use Rattle.message.specs.Message.{partOf, responseOf, responded, writingOf, Wrote}
 use Rattle.message.proofs.Laws.{writes}
 use Rattle.events.specs.declared.Queue.{Queue}
 use Rattle.events.specs.declared.Checked.{Checked}
@@ -23,7 +23,7 @@ use Rattle.events.specs.declared.Checked.the-variants.{Passed, Failed}
 use Rattle.events.specs.declared.Outcome.{Outcome}
 use Rattle.events.specs.declared.Answer.{Answer}
 use Rattle.events.specs.declared.Answer.the-variants.{Reply, Nothing, Refused}
-use Rattle.events.specs.Events.{meant, checked, commandOf, judge, apply, said, handled}
+use Rattle.events.specs.Events.{checked, commandOf, judge, apply, said, handled}
 use Rattle.events.specs.Places.{eventsOf, Lawful, Holds, Answers, Handling}
 
 -- ---- the two kinds of reply
@@ -52,12 +52,13 @@ module _ (h : Head) (before after : List ℕ) (room : 13 ≤ length before) wher
 
 -- ---- all of it
 
+-- where a check's refusal did not come out, its test failed
+not-failed : (b : Bool) (r : Refusal) (rest : Checked) (h : Head) → cond b (Failed r) rest ≡ Passed h → b ≡ false
+not-failed true r rest h e = absurd (let z : _≡_ {A = ℕ} 0 1 = cc in omega arith)
+not-failed false r rest h e = refl
+
 pub passed-room : (room : ℕ) (message : List ℕ) (h : Head) → checked room message ≡ Passed h → 13 ≤ room
-passed-room room message h e = go (ltb room 13) refl e
-  where
-    go : (b : Bool) → ltb room 13 ≡ b → cond b (Failed BufferTooSmall) (meant (readOf message)) ≡ Passed h → 13 ≤ room
-    go true t f = absurd (let z : _≡_ {A = ℕ} 0 1 = cc in omega arith)
-    go false t f = ltb-false room 13 t
+passed-room room message h e = ltb-false room 13 (not-failed (ltb room 13) BufferTooSmall _ h e)
 
 module _ (q : Queue) (message before : List ℕ) where
   pub refused : (r : Refusal) → Lawful q → checked (length before) message ≡ Failed r

@@ -202,6 +202,56 @@ fn unpack(x: u32) -> Event
     }
 }
 
+// ---- the reply
+
+// A response that carries its code alone.
+fn reply_code(reply: &mut [u8], head: Head, code: u16) -> Answer
+    requires { ⌜ 13 ≤ length (now reply) ⌝ }
+    ensures { λ r. ⌜ Answers head (said (Outcome.Coded code)) (now (reply .entry)) (now (reply .exit)) r ⌝ }
+{
+    message::respond(reply, head.source, head.destination, head.thread, code);
+    Answer::Reply(10)
+}
+
+// A response that carries a found event and the code of success.
+fn reply_event(reply: &mut [u8], head: Head, event: Event) -> Answer
+    requires { ⌜ 13 ≤ length (now reply) ⌝ }
+    ensures { λ r. ⌜ Answers head (said (Outcome.Taken event)) (now (reply .entry)) (now (reply .exit)) r ⌝ }
+{
+    let part = [
+        event.kind,
+        (event.location / 256) as u8,
+        (event.location % 256) as u8,
+        0,
+        0,
+    ];
+    match message::write(
+        reply,
+        head.source,
+        head.destination,
+        tapa::RESPONSE,
+        head.thread,
+        &part,
+    ) {
+        Writing::Written(n) => Answer::Reply(n),
+        Writing::Refused(refusal) => Answer::Refused(refusal),
+    }
+}
+
+// The reply that an outcome has, if any.
+fn answered(reply: &mut [u8], head: Head, outcome: Outcome) -> Answer
+    requires { ⌜ 13 ≤ length (now reply) ⌝ }
+    ensures { λ r. ⌜ Answers head (said outcome) (now (reply .entry)) (now (reply .exit)) r ⌝ }
+{
+    match outcome {
+        Outcome::Added(_) => Answer::Nothing,
+        Outcome::Ignored => Answer::Nothing,
+        Outcome::Taken(event) => reply_event(reply, head, event),
+        Outcome::Emptied => reply_code(reply, head, tapa::DONE),
+        Outcome::Coded(code) => reply_code(reply, head, code),
+    }
+}
+
 // ---- the queue
 
 // A queue that holds nothing.
@@ -341,59 +391,7 @@ impl Queue {
             Outcome::Coded(_) => self,
         }
     }
-}
 
-// ---- the reply
-
-// A response that carries its code alone.
-fn reply_code(reply: &mut [u8], head: Head, code: u16) -> Answer
-    requires { ⌜ 13 ≤ length (now reply) ⌝ }
-    ensures { λ r. ⌜ Answers head (said (Outcome.Coded code)) (now (reply .entry)) (now (reply .exit)) r ⌝ }
-{
-    message::respond(reply, head.source, head.destination, head.thread, code);
-    Answer::Reply(10)
-}
-
-// A response that carries a found event and the code of success.
-fn reply_event(reply: &mut [u8], head: Head, event: Event) -> Answer
-    requires { ⌜ 13 ≤ length (now reply) ⌝ }
-    ensures { λ r. ⌜ Answers head (said (Outcome.Taken event)) (now (reply .entry)) (now (reply .exit)) r ⌝ }
-{
-    let part = [
-        event.kind,
-        (event.location / 256) as u8,
-        (event.location % 256) as u8,
-        0,
-        0,
-    ];
-    match message::write(
-        reply,
-        head.source,
-        head.destination,
-        tapa::RESPONSE,
-        head.thread,
-        &part,
-    ) {
-        Writing::Written(n) => Answer::Reply(n),
-        Writing::Refused(refusal) => Answer::Refused(refusal),
-    }
-}
-
-// The reply that an outcome has, if any.
-fn answered(reply: &mut [u8], head: Head, outcome: Outcome) -> Answer
-    requires { ⌜ 13 ≤ length (now reply) ⌝ }
-    ensures { λ r. ⌜ Answers head (said outcome) (now (reply .entry)) (now (reply .exit)) r ⌝ }
-{
-    match outcome {
-        Outcome::Added(_) => Answer::Nothing,
-        Outcome::Ignored => Answer::Nothing,
-        Outcome::Taken(event) => reply_event(reply, head, event),
-        Outcome::Emptied => reply_code(reply, head, tapa::DONE),
-        Outcome::Coded(code) => reply_code(reply, head, code),
-    }
-}
-
-impl Queue {
     // Takes a message, and hands back what it comes to and the next queue.
     pub fn handle(self, message: &[u8], reply: &mut [u8]) -> Handled
         requires { ⌜ Lawful self ⌝ }
