@@ -1,15 +1,14 @@
 -- Laws of what is decided: one for each way that a command can go, over the array that keeps the events.
-use Prim.Native.Nat.{ℕ, zero, suc, _+_, _-_, _≤_, _<_}
+use Prim.Native.Nat.{ℕ, suc, _+_, _-_, _≤_, _<_}
 use mathlib.Core.Path.{_≡_, refl, sym, ap, _∙_, subst}
 use mathlib.Core.Bool.{Bool, true, false, not, _&&_, cond}
-use mathlib.Core.List.{List, [], _∷_, _++_}
+use mathlib.Core.List.{List, [], _∷_}
 use mathlib.Core.Option.{Option, none, some}
 use native.Mathlib.Omega.{arith}
 use lib.Dec.{eqb, ltb}
 use lib.ListN.{length, getD}
-use borrow.Author.Tests.{lt-ltb, le-ltb, ltb-true, ltb-false, eq-eqb, eqb-true}
+use borrow.Author.Tests.{lt-ltb, le-ltb, ltb-true, eq-eqb, eqb-true}
 use Rattle.lists.specs.Lists.{first, without, find}
-use Rattle.lists.specs.declared.Found.{Found}
 use Rattle.lists.specs.declared.Found.the-variants.{At, Nothing}
 use Rattle.tapa.specs.Codes.{unsupportedOperation, queueEmpty, noMatch}
 use Rattle.events.specs.declared.Event.{Event}
@@ -18,10 +17,10 @@ use Rattle.events.specs.declared.Search.{Search}
 use Rattle.events.specs.declared.Command.{Command}
 use Rattle.events.specs.declared.Command.the-variants.{Add, WrongAdd, Get, Find, Flush, Wrong}
 use Rattle.events.specs.declared.Outcome.{Outcome}
-use Rattle.events.specs.declared.Outcome.the-variants.{Added, Ignored, Taken, Emptied, Coded}
+use Rattle.events.specs.declared.Outcome.the-variants.{Added, Ignored, Taken, Coded}
 use Rattle.events.specs.Events.{knownSearch, meets, likeOf, most, oldest, isEmpty, takenOr, judge, apply}
 use Rattle.events.specs.Places.{eventIn, eventsFrom, eventsOf, Allowed}
-use Rattle.events.proofs.Laws.{len, none-first, Stands, stands}
+use Rattle.events.proofs.Laws.{len, none-first, stands}
 
 -- ---- a queue's events, and how many there are
 

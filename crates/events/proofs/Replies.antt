@@ -1,9 +1,9 @@
 -- Laws of the reply, and of all that a message comes to.
-use Prim.Native.Nat.{ℕ, _+_, _≤_, _<_}
+use Prim.Native.Nat.{ℕ, _+_, _≤_}
 use mathlib.Core.Path.{_≡_, refl, sym, ap, _∙_}
 use mathlib.Core.Bool.{Bool, true, false, cond}
-use mathlib.Core.List.{List, [], _∷_, _++_}
-use mathlib.Core.Option.{Option, none, some}
+use mathlib.Core.List.{List}
+use mathlib.Core.Option.{some}
 use native.Mathlib.Omega.{arith}
 use lib.Dec.{ltb}
 use lib.ListN.{length}
@@ -22,7 +22,7 @@ use Rattle.events.specs.declared.Checked.{Checked}
 use Rattle.events.specs.declared.Checked.the-variants.{Passed, Failed}
 use Rattle.events.specs.declared.Outcome.{Outcome}
 use Rattle.events.specs.declared.Answer.{Answer}
-use Rattle.events.specs.declared.Answer.the-variants.{Reply, Nothing, Refused}
+use Rattle.events.specs.declared.Answer.the-variants.{Reply, Refused}
 use Rattle.events.specs.Events.{checked, commandOf, judge, apply, said, handled}
 use Rattle.events.specs.Places.{eventsOf, Lawful, Holds, Answers, Handling}
 

@@ -1,10 +1,10 @@
 -- Sums at the desk, C9: for every Get, from any source and on any thread, and every lent buffer that is large enough.
 use Prim.Native.Nat.{ℕ, _≤_}
-use mathlib.Core.Path.{_≡_, sym, ap, _∙_}
+use mathlib.Core.Path.{_≡_, ap, _∙_}
 use mathlib.Core.List.{List, []}
 use native.Mathlib.Omega.{arith}
-use lib.ListN.{length, drop, getD, length-drop}
-use borrow.Author.Tests.{le-ltb, eq-eqb}
+use lib.ListN.{length, getD, length-drop}
+use borrow.Author.Tests.{le-ltb}
 use Rattle.lists.specs.Lists.{onto}
 use Rattle.tapa.specs.Address.{handlerOf}
 use Rattle.tapa.specs.Codes.{queueEmpty, getEvent, eventHandler}

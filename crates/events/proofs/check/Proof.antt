@@ -1,7 +1,6 @@
 -- `events::check` meets its contract, check by check. Assumes nothing.
-use mathlib.Core.Path.{sym, ap, _∙_}
+use mathlib.Core.Path.{sym, _∙_}
 use borrow.Author.Tests.{lt-ltb, le-ltb}
-use Rattle.events.specs.Events.{meant}
 use borrow.Author.Needs.{needs}
 use Rattle.events.proofs.check.Statement.{statement}
 use Rattle.events.proofs.check.Tie as tie

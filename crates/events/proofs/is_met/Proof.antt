@@ -1,5 +1,4 @@
 -- `events::is_met` meets its contract: an arm for each search type. Assumes nothing.
-use mathlib.Core.Path.{sym}
 use borrow.Author.Tests.{ne-eqb}
 use Rattle.events.specs.Events.{meets}
 use Rattle.events.proofs.is_met.Statement.{statement}

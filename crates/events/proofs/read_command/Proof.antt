@@ -1,5 +1,4 @@
 -- `events::read_command` meets its contract: an exit for each type and whether the data's length is right. Assumes nothing.
-use mathlib.Core.Path.{sym}
 use borrow.Author.Tests.{eq-eqb, ne-eqb}
 use Rattle.events.specs.Events.{commandOf}
 use borrow.Author.Needs.{needs}

@@ -7,7 +7,7 @@ use Rattle.lists.specs.Lists.{find}
 use Rattle.lists.specs.declared.Found.the-variants.{At}
 use Rattle.events.specs.Events.{knownSearch, meets}
 use Rattle.events.specs.Places.{eventsOf}
-use Rattle.events.proofs.Laws.{Stands, stands}
+use Rattle.events.proofs.Laws.{stands}
 use Rattle.events.proofs.Judging.{finds-unknown, finds-empty, finds-none, finds}
 use borrow.Author.Needs.{needs}
 use borrow.Author.Tests.{not-true, not-false}

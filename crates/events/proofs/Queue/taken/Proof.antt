@@ -4,7 +4,7 @@ use Rattle.lists.specs.Lists.{find}
 use Rattle.lists.specs.declared.Found.the-variants.{At}
 use Rattle.events.specs.Events.{meets, likeOf}
 use Rattle.events.specs.Places.{eventsOf}
-use Rattle.events.proofs.Laws.{Stands, stands, none-without}
+use Rattle.events.proofs.Laws.{stands, none-without}
 use borrow.Author.Needs.{needs}
 use Rattle.events.proofs.Queue.taken.Statement.{statement}
 use Rattle.events.proofs.Queue.taken.Tie as tie
