@@ -23,7 +23,7 @@ use Rattle.events.specs.declared.Checked.the-variants.{Passed, Failed}
 use Rattle.events.specs.declared.Outcome.{Outcome}
 use Rattle.events.specs.declared.Answer.{Answer}
 use Rattle.events.specs.declared.Answer.the-variants.{Reply, Refused}
-use Rattle.events.specs.Events.{checked, commandOf, judge, apply, said, handled}
+use Rattle.events.specs.Events.{checked, commandOf, judge, apply, carried, handled}
 use Rattle.events.specs.Places.{eventsOf, Lawful, Holds, Answers, Handling}
 
 -- ---- the two kinds of reply
@@ -67,7 +67,7 @@ module _ (q : Queue) (message before : List ℕ) where
   refused r w e = rw e (record { answer = refl; next = record { events = refl; law = w }; reply = refl })
 
   pub obeyed : (h : Head) (o : Outcome) (a : Answer) (next : Queue) (after : List ℕ) → checked (length before) message ≡ Passed h
-      → o ≡ judge (eventsOf q) (commandOf (h .kind) (partOf message)) → Holds next (apply o (eventsOf q)) → Answers h (said o) before after a
+      → o ≡ judge (eventsOf q) (commandOf (h .kind) (partOf message)) → Holds next (apply o (eventsOf q)) → Answers h (carried o) before after a
       → Handling (handled (eventsOf q) message before) after (record { answer = a; next = next })
   unfolding handled
   obeyed h o a next after e k w r = rw (e, ← k) (record { answer = r .answer; next = w; reply = r .reply })

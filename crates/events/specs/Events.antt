@@ -140,12 +140,12 @@ apply Emptied es = []
 apply (Coded code) es = es
 
 -- 'A found event's response carries type, location, '0000' (length '0005'); all others only the code.'
-abbrev pub said : Outcome → Option (List ℕ)
-said (Added e) = none
-said Ignored = none
-said (Taken e) = some (e .kind ∷ (twoBytes (e .location) ++ twoBytes done))
-said Emptied = some (twoBytes done)
-said (Coded code) = some (twoBytes code)
+abbrev pub carried : Outcome → Option (List ℕ)
+carried (Added e) = none
+carried Ignored = none
+carried (Taken e) = some (e .kind ∷ (twoBytes (e .location) ++ twoBytes done))
+carried Emptied = some (twoBytes done)
+carried (Coded code) = some (twoBytes code)
 
 -- the answer is the reply's length
 abbrev pub answerOf : Option (List ℕ) → Answer
@@ -170,7 +170,7 @@ abbrev pub refuses : Refusal → List Event → List ℕ → Result
 refuses r es reply = record { answer = Refused r; events = es; reply = reply }
 
 abbrev pub does : Head → Outcome → List Event → List ℕ → Result
-does h o es reply = record { answer = answerOf (said o); events = apply o es; reply = replied h (said o) reply }
+does h o es reply = record { answer = answerOf (carried o); events = apply o es; reply = replied h (carried o) reply }
 
 abbrev pub obeys : Checked → List Event → List ℕ → List ℕ → Result
 obeys (Failed r) es part reply = refuses r es reply

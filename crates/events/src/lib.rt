@@ -13,7 +13,7 @@ ghost use mathlib.Core.List.{[], _++_, _∷_};
 ghost use Prim.Native.Nat.{_+_, _≤_, _<_};
 ghost use lib.ListN.{length};
 ghost use Rattle.lists.specs.Lists.{find, without, withoutAt};
-ghost use Rattle.events.specs.Events.{elsewhere, checked, eventAt, commandOf, knownSearch, meets, likeOf, most, judge, apply, said, handled};
+ghost use Rattle.events.specs.Events.{elsewhere, checked, eventAt, commandOf, knownSearch, meets, likeOf, most, judge, apply, carried, handled};
 ghost use Rattle.events.specs.Places.{Packs, eventIn, eventsOf, Lawful, Holds, Allowed, Answers, Handling};
 
 // A type byte and the address where it happened.
@@ -207,7 +207,7 @@ fn unpack(x: u32) -> Event
 // A response that carries its code alone.
 fn reply_code(reply: &mut [u8], head: Head, code: u16) -> Answer
     requires { ⌜ 13 ≤ length (now reply) ⌝ }
-    ensures { λ r. ⌜ Answers head (said (Outcome.Coded code)) (now (reply .entry)) (now (reply .exit)) r ⌝ }
+    ensures { λ r. ⌜ Answers head (carried (Outcome.Coded code)) (now (reply .entry)) (now (reply .exit)) r ⌝ }
 {
     message::respond(reply, head.source, head.destination, head.thread, code);
     Answer::Reply(10)
@@ -216,7 +216,7 @@ fn reply_code(reply: &mut [u8], head: Head, code: u16) -> Answer
 // A response that carries a found event and the code of success.
 fn reply_event(reply: &mut [u8], head: Head, event: Event) -> Answer
     requires { ⌜ 13 ≤ length (now reply) ⌝ }
-    ensures { λ r. ⌜ Answers head (said (Outcome.Taken event)) (now (reply .entry)) (now (reply .exit)) r ⌝ }
+    ensures { λ r. ⌜ Answers head (carried (Outcome.Taken event)) (now (reply .entry)) (now (reply .exit)) r ⌝ }
 {
     let part = [
         event.kind,
@@ -241,7 +241,7 @@ fn reply_event(reply: &mut [u8], head: Head, event: Event) -> Answer
 // The reply that an outcome has, if any.
 fn answered(reply: &mut [u8], head: Head, outcome: Outcome) -> Answer
     requires { ⌜ 13 ≤ length (now reply) ⌝ }
-    ensures { λ r. ⌜ Answers head (said outcome) (now (reply .entry)) (now (reply .exit)) r ⌝ }
+    ensures { λ r. ⌜ Answers head (carried outcome) (now (reply .entry)) (now (reply .exit)) r ⌝ }
 {
     match outcome {
         Outcome::Added(_) => Answer::Nothing,

@@ -51,7 +51,7 @@ returns-2 c =
     let h = d .before .before in
     let s = h .before .before .before .before .before in
     obeyed (s .args .self) _ _ _ _ _ _ _ (passed h)
-    (j .judge .ensures ∙ ap (judge (eventsOf (s .args .self))) (j .before .read-command .ensures ∙ ap (commandOf (h .head .given .0 .0 .kind)) (d .data-part .ensures)))
+    (j .judge .ensures ∙ ap (judge (eventsOf (s .args .self))) (j .before .read-command .ensures ∙ ap (commandOf (h .head .given .0 .0 .kind)) (d .data-part .ensures .bytes)))
     (c .before .before .before .before .apply .ensures)
     (c .before .before .answered .ensures)
 
