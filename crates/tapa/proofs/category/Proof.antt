@@ -3,8 +3,6 @@ use Rattle.tapa.specs.Address.{categoryOf}
 use borrow.Author.Needs.{needs}
 use Rattle.tapa.proofs.category.Statement.{statement}
 use Rattle.tapa.proofs.category.Tie as tie
-use Rattle.tapa.proofs.category.Reads as reads
-use Rattle.tapa.proofs.category.Lts as lts
 
 cast-result : tie.Need-cast-result
 cast-result c = search needs

@@ -3,8 +3,6 @@ use Rattle.tapa.specs.Address.{handlerOf}
 use borrow.Author.Needs.{needs}
 use Rattle.tapa.proofs.handler.Statement.{statement}
 use Rattle.tapa.proofs.handler.Tie as tie
-use Rattle.tapa.proofs.handler.Reads as reads
-use Rattle.tapa.proofs.handler.Lts as lts
 
 mul-result : tie.Need-mul-result
 mul-result c = search needs

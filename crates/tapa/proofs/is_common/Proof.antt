@@ -6,8 +6,6 @@ use Rattle.tapa.specs.Types.{common}
 use Rattle.tapa.proofs.Stretch.{one-value}
 use Rattle.tapa.proofs.is_common.Statement.{statement}
 use Rattle.tapa.proofs.is_common.Tie as tie
-use Rattle.tapa.proofs.is_common.Reads as reads
-use Rattle.tapa.proofs.is_common.Lts as lts
 
 returns : tie.Need-returns
 unfolding common

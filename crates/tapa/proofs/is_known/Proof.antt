@@ -4,10 +4,6 @@ use borrow.Author.Tests.{le-leb, lt-leb}
 use borrow.Author.Needs.{needs}
 use Rattle.tapa.proofs.is_known.Statement.{statement}
 use Rattle.tapa.proofs.is_known.Tie as tie
-use Rattle.tapa.proofs.is_known.Reads as reads
-use Rattle.tapa.proofs.is_known.Lts as lts
-use Rattle.tapa.proofs.is_common.Reads as is-common-reads
-use Rattle.tapa.proofs.is_own.Reads as is-own-reads
 
 is-own-requires : tie.Need-is-own-requires
 is-own-requires c κs = search needs

@@ -3,8 +3,6 @@ use borrow.Author.Needs.{needs}
 use Rattle.tapa.specs.Address.{multi}
 use Rattle.tapa.proofs.is_multi.Statement.{statement}
 use Rattle.tapa.proofs.is_multi.Tie as tie
-use Rattle.tapa.proofs.is_multi.Reads as reads
-use Rattle.tapa.proofs.is_multi.Lts as lts
 
 returns : tie.Need-returns
 unfolding multi

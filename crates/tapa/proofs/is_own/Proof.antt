@@ -8,8 +8,6 @@ use Rattle.tapa.specs.Types.{own}
 use Rattle.tapa.proofs.Stretch.{stretch, at-key, none-own, strange}
 use Rattle.tapa.proofs.is_own.Statement.{statement}
 use Rattle.tapa.proofs.is_own.Tie as tie
-use Rattle.tapa.proofs.is_own.Reads as reads
-use Rattle.tapa.proofs.is_own.Lts as lts
 
 returns : tie.Need-returns
 unfolding own

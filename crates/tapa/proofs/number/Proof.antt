@@ -4,8 +4,6 @@ use Rattle.tapa.specs.Refusals.{numberOf}
 use borrow.Author.Needs.{needs}
 use Rattle.tapa.proofs.number.Statement.{statement}
 use Rattle.tapa.proofs.number.Tie as tie
-use Rattle.tapa.proofs.number.Reads as reads
-use Rattle.tapa.proofs.number.Lts as lts
 
 enum-told : tie.Need-enum-told
 enum-told c = search needs

@@ -1,0 +1,56 @@
+-- `message::data_part` meets its contract: a message has eight bytes before its data. Assumes nothing.
+use mathlib.Core.Path.{sym, _∙_}
+use Rattle.message.proofs.Laws.{long, all-left, part-of-message, part-of-none}
+use borrow.Author.Needs.{needs}
+use Rattle.message.proofs.data_part.Statement.{statement}
+use Rattle.message.proofs.data_part.Tie as tie
+
+read-requires : tie.Need-read-requires
+read-requires c κs = search needs
+
+enum-told : tie.Need-enum-told
+enum-told c = search needs
+
+sub-result : tie.Need-sub-result
+sub-result c = long (c .before .before .before .before .args .message .now) (sym (c .before .before .read .ensures) ∙ c .enum-told .given .1)
+
+part-result-start : tie.Need-part-result-start
+part-result-start c = long (c .before .before .before .before .args .message .now) (sym (c .before .before .read .ensures) ∙ c .enum-told .given .1)
+
+part-result-end : tie.Need-part-result-end
+part-result-end c = search needs
+
+enum-told-2 : tie.Need-enum-told-2
+enum-told-2 c = search needs
+
+sub-result-2 : tie.Need-sub-result-2
+sub-result-2 c = search needs
+
+part-result-start-2 : tie.Need-part-result-start-2
+part-result-start-2 c = search needs
+
+part-result-end-2 : tie.Need-part-result-end-2
+part-result-end-2 c = search needs
+
+returns : tie.Need-returns
+returns c = let s = c .before .before .before .before .before .args .message .now in
+    all-left s ∙ sym (part-of-message s _ (sym (c .before .before .before .read .ensures) ∙ c .before .enum-told .given .1))
+
+returns-2 : tie.Need-returns-2
+returns-2 c = sym (part-of-none (c .before .before .before .before .before .args .message .now) _ (sym (c .before .before .before .read .ensures) ∙ c .before .enum-told2 .given .1))
+
+pub data-part-spec : {M : Type 1} → statement M
+data-part-spec =
+    tie.close
+    (tie.spec
+    read-requires
+    enum-told
+    sub-result
+    part-result-start
+    part-result-end
+    enum-told-2
+    sub-result-2
+    part-result-start-2
+    part-result-end-2
+    returns
+    returns-2)
