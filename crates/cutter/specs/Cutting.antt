@@ -54,8 +54,11 @@ toCut message = toCutFrom (startOf message) message
 -- ---- one command
 
 -- ''B0 FE', thread, P2, Lc, data, '00''
+abbrev pub commandHead : ℕ → ℕ → ℕ → List ℕ
+commandHead thread p2 count = 0xB0 ∷ 0xFE ∷ thread ∷ p2 ∷ count ∷ []
+
 unfoldable pub commandOf : ℕ → ℕ → List ℕ → List ℕ
-commandOf thread p2 piece = 0xB0 ∷ 0xFE ∷ thread ∷ p2 ∷ length piece ∷ (piece ++ (0x00 ∷ []))
+commandOf thread p2 piece = commandHead thread p2 (length piece) ++ (piece ++ (0x00 ∷ []))
 
 -- 'All but the last have P2 '01' and 248 bytes; the last has P2 '00' and 1 to 248.'
 unfoldable pub pieceAt : List ℕ → ℕ → List ℕ

@@ -14,7 +14,7 @@ ghost use mathlib.Core.Path.{_≡_};
 ghost use Prim.Native.Nat.{_+_, _≤_};
 ghost use lib.ListN.{length};
 ghost use Rattle.lists.specs.Lists.{onto};
-ghost use Rattle.cutter.specs.Cutting.{startOf, threadOf, toCut, commandOf, cutterAt, HandsOut, Steps, Begins, Firsts};
+ghost use Rattle.cutter.specs.Cutting.{startOf, threadOf, toCut, commandHead, commandOf, cutterAt, HandsOut, Steps, Begins, Firsts};
 
 // Whether a message can be cut: a response's thread, or why not.
 pub enum Start {
@@ -102,16 +102,23 @@ pub fn part_to_cut(message: &[u8]) -> &[u8]
     }
 }
 
-fn put_command(buffer: &mut [u8], thread: u8, p2: u8, piece: &[u8])
-    requires { ⌜ 6 + length (now piece) ≤ length (now buffer) ⌝ }
-    requires { ⌜ length (now piece) ≤ 248 ⌝ }
-    ensures { λ _. ⌜ now (buffer .exit) ≡ onto (commandOf thread p2 (now (piece .entry))) (now (buffer .entry)) ⌝ }
+fn put_head(buffer: &mut [u8], thread: u8, p2: u8, count: u8)
+    requires { ⌜ 5 ≤ length (now buffer) ⌝ }
+    ensures { λ _. ⌜ now (buffer .exit) ≡ onto (commandHead thread p2 count) (now (buffer .entry)) ⌝ }
 {
     buffer[0] = 0xB0;
     buffer[1] = 0xFE;
     buffer[2] = thread;
     buffer[3] = p2;
-    buffer[4] = piece.len() as u8;
+    buffer[4] = count;
+}
+
+fn put_command(buffer: &mut [u8], thread: u8, p2: u8, piece: &[u8])
+    requires { ⌜ 6 + length (now piece) ≤ length (now buffer) ⌝ }
+    requires { ⌜ length (now piece) ≤ 248 ⌝ }
+    ensures { λ _. ⌜ now (buffer .exit) ≡ onto (commandOf thread p2 (now (piece .entry))) (now (buffer .entry)) ⌝ }
+{
+    put_head(buffer, thread, p2, piece.len() as u8);
     let n = bytes::copy(piece, &mut buffer[5..]);
     buffer[5 + n] = 0x00;
 }
