@@ -20,7 +20,9 @@ use Rattle.cutter.specs.declared.Start.the-variants.{Ready, Refused as N
 use Rattle.cutter.specs.declared.Cut.{Cut}
 use Rattle.cutter.specs.declared.Cut.the-variants.{Command, Done, Refused}
 use Rattle.cutter.specs.declared.Handed.{Handed}
-use Rattle.cutter.specs.Cutting.{startOf, toCut, commandHead, commandOf, pieceAt, p2At, commandAt, cutAt, placeAfter, bufferAfter, HandsOut}
+use Rattle.cutter.specs.declared.Step.{Step}
+use Rattle.cutter.specs.declared.Begun.{Begun}
+use Rattle.cutter.specs.Cutting.{startOf, toCut, commandHead, commandOf, pieceAt, p2At, commandAt, cutAt, placeAfter, writtenAt, HandsOut, Steps, Begins, Firsts}
 
 -- ---- the start
 module _ (s : List ℕ) where
@@ -143,3 +145,19 @@ module _ (part buffer : List ℕ) (at : ℕ) where
   handed-last thread after b l m =
       let n : length (pieceAt part at) ≡ length part - at = last-length part at m in
       handed-out thread 0 (6 + (length part - at)) (length part) (take (length part - at) (drop at part)) after b l (last-piece part at m) (last-p2 part at m) (omega arith) (omega arith)
+
+-- ---- a start and the first handing out
+pub first-made : (message before after : List ℕ) (b : Begun) (s : Step) → Begins message b → Steps (b .cutter) before after s
+    → Firsts message before after (record { start = b .start; cut = s .cut; next = s .rest .at })
+first-made message before after b s begins steps = record {
+  answer = λ i. record { start = begins .start i; cut = cuts i; next = places i };
+  buffer = steps .buffer ∙ (λ i. writtenAt (begins .part i) (begins .thread i) (begins .at i) before);
+}
+  where
+    cuts : s .cut ≡ cutAt (toCut message) 0 before
+    cuts = ap (λ (t : Step). t .cut) (steps .answer) ∙ (λ i. cutAt (begins .part i) (begins .at i) before)
+
+    places : s .rest .at ≡ placeAfter (cutAt (toCut message) 0 before) (toCut message) 0
+    places =
+        ap (λ (t : Step). t .rest .at) (steps .answer)
+        ∙ (λ i. placeAfter (cutAt (begins .part i) (begins .at i) before) (begins .part i) (begins .at i))
