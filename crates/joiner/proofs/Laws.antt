@@ -222,12 +222,12 @@ module _ (j : Joiner) (m : List ℕ) where
   pub complete-response : (s : ℕ) → wholeOf j m ≡ Response s → Complete
   complete-response s e = to-complete (rw e tt)
 
--- the joined bytes and what is put to them are as long as the joined bytes alone, or longer
-pub whole-over : (w : Whole) (m b : List ℕ) → onto (wholeBytes w m) (onto m b) ≡ onto (wholeBytes w m) b
+-- the joined bytes with what is put to them are as long as the joined bytes alone, or longer
+pub whole-longer : (w : Whole) (m : List ℕ) → length m ≤ length (wholeBytes w m)
 unfolding completed
-whole-over (NotWhole r) m b = onto-over m m b (le-refl (length m))
-whole-over Plain m b = onto-over m m b (le-refl (length m))
-whole-over (Response s) m b = onto-over (completed s m) m b (simp length-append (omega (arith, length-drop 2 m)))
+whole-longer (NotWhole r) m = le-refl (length m)
+whole-longer Plain m = le-refl (length m)
+whole-longer (Response s) m = simp length-append (omega (arith, length-drop 2 m))
 
 -- ---- finishing: the first m bytes are judged
 module _ (j : Joiner) (m : ℕ) (b : List ℕ) (few : m ≤ 1032) (room : 1032 ≤ length b) where
@@ -299,7 +299,7 @@ module _ (j : Joiner) (p b : List ℕ) where
         record {
           answer = rw (le-ltb (length b) 1032 l, e) (ew ∙ ap (λ (y : List ℕ). wholeAnswer (wholeOf j y) y) start);
           next = rw (le-ltb (length b) 1032 l, e) ex;
-          buffer = rw (le-ltb (length b) 1032 l, e) (ea ∙ (λ i. onto (wholeBytes (wholeOf j (start i)) (start i)) (eh i)) ∙ whole-over (wholeOf j s) s b);
+          buffer = rw (le-ltb (length b) 1032 l, e) (ea ∙ (λ i. onto (wholeBytes (wholeOf j (start i)) (start i)) (eh i)) ∙ onto-over (wholeBytes (wholeOf j s) s) s b (whole-longer (wholeOf j s) s));
         }
 
 -- ---- the part that an answer hands on

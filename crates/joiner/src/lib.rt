@@ -9,7 +9,7 @@
 // ICC command on its thread, which `keep` holds; the code is '0000'. The PSAM counts the code in
 // the announced length although it leaves it out.
 //
-// That every way of cutting a message joins to the same message: proofs/Whole.antt.
+// That every way of cutting a message joins to the same message: proofs/Delivered.antt.
 use message::Reading;
 use message::Writing;
 use tapa::Refusal;
