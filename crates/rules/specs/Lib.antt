@@ -1,0 +1,5 @@
+pub mod View
+pub mod Judge
+pub mod Apply
+pub mod Conduct
+pub mod Words
