@@ -8,11 +8,12 @@ use lib.ListN.{length, take, drop, set, length-append, length-drop}
 use lib.Seq.{take-all, length-take-le}
 use borrow.Author.Tests.{lt-ltb, le-ltb, le-leb, lt-leb, eq-eqb, ne-eqb}
 use borrow.Rule.Slice.PartMut.{putMid}
-use Rattle.lists.specs.Lists.{onto}
+use denote.Ref.{RefT, now}
+use Rattle.lists.specs.Lists.{onto, LiesAt}
 use Rattle.lists.proofs.Onto.{onto-length, onto-then, onto-stores}
 use Rattle.tapa.specs.declared.Refusal.{Refusal}
 use Rattle.tapa.specs.declared.Refusal.the-variants.{ThreadAbove7, NoResponseCode, BufferTooSmall, NotThisPartsMessage}
-use Rattle.message.specs.Message.{readOf, partOf}
+use Rattle.message.specs.Message.{readOf, partOf, DataPart}
 use Rattle.message.specs.declared.Head.{Head}
 use Rattle.message.specs.declared.Reading.the-variants.{Message, Refused as Unread}
 use Rattle.cutter.specs.declared.Start.{Start}
@@ -22,7 +23,7 @@ use Rattle.cutter.specs.declared.Cut.the-variants.{Command, Done, Refuse
 use Rattle.cutter.specs.declared.Handed.{Handed}
 use Rattle.cutter.specs.declared.Step.{Step}
 use Rattle.cutter.specs.declared.Begun.{Begun}
-use Rattle.cutter.specs.Cutting.{startOf, toCut, commandHead, commandOf, pieceAt, p2At, commandAt, cutAt, placeAfter, writtenAt, HandsOut, Steps, Begins, Firsts}
+use Rattle.cutter.specs.Cutting.{startOf, toCut, PartToCut, commandHead, commandOf, pieceAt, p2At, commandAt, cutAt, placeAfter, writtenAt, HandsOut, Steps, Begins, Firsts}
 
 -- ---- the start
 module _ (s : List ℕ) where
@@ -48,13 +49,21 @@ module _ (s : List ℕ) where
     starts k t l = rw (e, eq-eqb (h .kind) 255 k, le-ltb 7 (h .thread) t, le-ltb (h .length) 2 l)
 
   -- the data to cut
-  pub cuts-part : (t : ℕ) → startOf s ≡ Ready t → toCut s ≡ partOf s
+  cuts-part : (t : ℕ) → startOf s ≡ Ready t → toCut s ≡ partOf s
   unfolding toCut
   cuts-part t e = rw e
 
-  pub cuts-none : (r : Refusal) → startOf s ≡ NotReady r → toCut s ≡ []
+  cuts-none : (r : Refusal) → startOf s ≡ NotReady r → toCut s ≡ []
   unfolding toCut
   cuts-none r e = rw e
+
+-- as a part of the message: its data, or the empty part at its start
+module _ (x z : RefT (List ℕ)) where
+  pub hands-part : (t : ℕ) → startOf (now x) ≡ Ready t → DataPart x z → PartToCut x z
+  hands-part t e d = record { bytes = d .bytes ∙ sym (cuts-part (now x) t e); place = rw e (d .place) }
+
+  pub hands-none : (r : Refusal) → startOf (now x) ≡ NotReady r → now z ≡ [] → LiesAt 0 x z → PartToCut x z
+  hands-none r e n l = record { bytes = n ∙ sym (cuts-none (now x) r e); place = rw e l }
 
 -- ---- the piece at a place
 module _ (part : List ℕ) (at : ℕ) where
@@ -147,17 +156,17 @@ module _ (part buffer : List ℕ) (at : ℕ) where
       handed-out thread 0 (6 + (length part - at)) (length part) (take (length part - at) (drop at part)) after b l (last-piece part at m) (last-p2 part at m) (omega arith) (omega arith)
 
 -- ---- a start and the first handing out
-pub first-made : (message before after : List ℕ) (b : Begun) (s : Step) → Begins message b → Steps (b .cutter) before after s
-    → Firsts message before after (record { start = b .start; cut = s .cut; next = s .rest .at })
-first-made message before after b s begins steps = record {
+pub first-made : (x : RefT (List ℕ)) (before after : List ℕ) (b : Begun) (s : Step) → Begins x b → Steps (b .cutter) before after s
+    → Firsts (now x) before after (record { start = b .start; cut = s .cut; next = s .rest .at })
+first-made x before after b s begins steps = record {
   answer = λ i. record { start = begins .start i; cut = cuts i; next = places i };
-  buffer = steps .buffer ∙ (λ i. writtenAt (begins .part i) (begins .thread i) (begins .at i) before);
+  buffer = steps .buffer ∙ (λ i. writtenAt (begins .part .bytes i) (begins .thread i) (begins .at i) before);
 }
   where
-    cuts : s .cut ≡ cutAt (toCut message) 0 before
-    cuts = ap (λ (t : Step). t .cut) (steps .answer) ∙ (λ i. cutAt (begins .part i) (begins .at i) before)
+    cuts : s .cut ≡ cutAt (toCut (now x)) 0 before
+    cuts = ap (λ (t : Step). t .cut) (steps .answer) ∙ (λ i. cutAt (begins .part .bytes i) (begins .at i) before)
 
-    places : s .rest .at ≡ placeAfter (cutAt (toCut message) 0 before) (toCut message) 0
+    places : s .rest .at ≡ placeAfter (cutAt (toCut (now x)) 0 before) (toCut (now x)) 0
     places =
         ap (λ (t : Step). t .rest .at) (steps .answer)
-        ∙ (λ i. placeAfter (cutAt (begins .part i) (begins .at i) before) (begins .part i) (begins .at i))
+        ∙ (λ i. placeAfter (cutAt (begins .part .bytes i) (begins .at i) before) (begins .part .bytes i) (begins .at i))

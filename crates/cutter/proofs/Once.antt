@@ -1,15 +1,15 @@
 -- Each contract leaves one answer possible, with one content of the lent buffer.
--- `start_check`, `start_thread`, `part_to_cut` and `over` ensure an equation with a definition: two answers are then equal by it.
+-- `start_check` and `over` ensure an equation with a definition: two answers are then equal by it.
 use mathlib.Core.Path.{_≡_, sym, _∙_}
 use mathlib.Core.List.{List}
 use Prim.Native.Nat.{ℕ}
-use denote.Ref.{now}
+use denote.Ref.{RefT, now}
 use Rattle.cutter.specs.declared.Handed.{Handed}
 use Rattle.cutter.specs.declared.Cutter.{Cutter}
 use Rattle.cutter.specs.declared.Step.{Step}
 use Rattle.cutter.specs.declared.Begun.{Begun}
 use Rattle.cutter.specs.declared.First.{First}
-use Rattle.cutter.specs.Cutting.{HandsOut, Steps, Begins, Firsts}
+use Rattle.cutter.specs.Cutting.{PartToCut, HandsOut, Steps, Begins, Firsts}
 
 pub one-cut-next : (part : List ℕ) (thread at : ℕ) (before a a′ : List ℕ) (h h′ : Handed)
     → HandsOut part thread at before a h → HandsOut part thread at before a′ h′ → (h ≡ h′) × (a ≡ a′)
@@ -21,14 +21,17 @@ one-next c before a a′ s s′ x y = (x .answer ∙ sym (y .answer), x .buffer 
 pub one-first-command : (message before a a′ : List ℕ) (f f′ : First) → Firsts message before a f → Firsts message before a′ f′ → (f ≡ f′) × (a ≡ a′)
 one-first-command message before a a′ f f′ x y = (x .answer ∙ sym (y .answer), x .buffer ∙ sym (y .buffer))
 
--- what can be seen of a cutter: the bytes behind its reference, its thread and its place
-pub record SameCutter (c c′ : Cutter) : Type 0 where
-  pub part : now (c .part) ≡ now (c′ .part)
-  pub thread : c .thread ≡ c′ .thread
-  pub at : c .at ≡ c′ .at
+-- what can be seen of a part: its bytes and where they stand
+pub record SamePart (x y : RefT (List ℕ)) : Type 0 where
+  pub bytes : now x ≡ now y
+  pub place : x .ptr ≡ y .ptr
 
-pub one-begin : (message : List ℕ) (b b′ : Begun) → Begins message b → Begins message b′ → (b .start ≡ b′ .start) × SameCutter (b .cutter) (b′ .cutter)
+pub one-part-to-cut : (message x y : RefT (List ℕ)) → PartToCut message x → PartToCut message y → SamePart x y
+one-part-to-cut message x y p q = record { bytes = p .bytes ∙ sym (q .bytes); place = p .place ∙ sym (q .place) }
+
+pub one-begin : (message : RefT (List ℕ)) (b b′ : Begun) → Begins message b → Begins message b′
+    → (b .start ≡ b′ .start) × (SamePart (b .cutter .part) (b′ .cutter .part) × ((b .cutter .thread ≡ b′ .cutter .thread) × (b .cutter .at ≡ b′ .cutter .at)))
 one-begin message b b′ x y = (
   x .start ∙ sym (y .start),
-  record { part = x .part ∙ sym (y .part); thread = x .thread ∙ sym (y .thread); at = x .at ∙ sym (y .at) },
+  (one-part-to-cut message (b .cutter .part) (b′ .cutter .part) (x .part) (y .part), (x .thread ∙ sym (y .thread), x .at ∙ sym (y .at))),
 )

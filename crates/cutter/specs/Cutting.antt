@@ -6,10 +6,10 @@ use mathlib.Core.List.{List, [], _∷_, _++_}
 use lib.Dec.{eqb, ltb, leb}
 use lib.ListN.{length, take, drop}
 use denote.Ref.{RefT, now}
-use Rattle.lists.specs.Lists.{checks, onto}
+use Rattle.lists.specs.Lists.{checks, onto, LiesAt}
 use Rattle.tapa.specs.Codes.{response}
 use Rattle.tapa.specs.declared.Refusal.the-variants.{ThreadAbove7, NoResponseCode, BufferTooSmall, NotThisPartsMessage}
-use Rattle.message.specs.Message.{readOf, partOf}
+use Rattle.message.specs.Message.{readOf, partOf, partStart}
 use Rattle.message.specs.declared.Reading.{Reading}
 use Rattle.message.specs.declared.Reading.the-variants.{Message, Refused as Unread}
 use Rattle.cutter.specs.declared.Start.{Start}
@@ -50,6 +50,16 @@ toCutFrom (NotReady r) message = []
 
 unfoldable pub toCut : List ℕ → List ℕ
 toCut message = toCutFrom (startOf message) message
+
+-- where it starts in the message
+abbrev pub cutStart : Start → List ℕ → ℕ
+cutStart (Ready thread) message = partStart message
+cutStart (NotReady r) message = 0
+
+-- the data to cut, handed out: its bytes, and that it stands in the message itself
+pub record PartToCut (message part : RefT (List ℕ)) : Type 0 where
+  pub bytes : now part ≡ toCut (now message)
+  pub place : LiesAt (cutStart (startOf (now message)) (now message)) message part
 
 -- ---- one command
 
@@ -122,10 +132,10 @@ pub record Steps (c : Cutter) (before after : List ℕ) (s : Step) : Type 0 wher
   pub buffer : after ≡ writtenAt (now (c .part)) (c .thread) (c .at) before
 
 -- a start over a message: the answer, and the cutter over the message's own data at its first place
-pub record Begins (message : List ℕ) (b : Begun) : Type 0 where
-  pub start : b .start ≡ startOf message
-  pub part : now (b .cutter .part) ≡ toCut message
-  pub thread : b .cutter .thread ≡ threadOf (startOf message)
+pub record Begins (message : RefT (List ℕ)) (b : Begun) : Type 0 where
+  pub start : b .start ≡ startOf (now message)
+  pub part : PartToCut message (b .cutter .part)
+  pub thread : b .cutter .thread ≡ threadOf (startOf (now message))
   pub at : b .cutter .at ≡ 0
 
 -- a start and the first handing out at once

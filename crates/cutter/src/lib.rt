@@ -14,7 +14,7 @@ ghost use mathlib.Core.Path.{_≡_};
 ghost use Prim.Native.Nat.{_+_, _≤_};
 ghost use lib.ListN.{length};
 ghost use Rattle.lists.specs.Lists.{onto};
-ghost use Rattle.cutter.specs.Cutting.{startOf, threadOf, toCut, commandHead, commandOf, cutterAt, HandsOut, Steps, Begins, Firsts};
+ghost use Rattle.cutter.specs.Cutting.{startOf, threadOf, PartToCut, commandHead, commandOf, cutterAt, HandsOut, Steps, Begins, Firsts};
 
 // Whether a message can be cut: a response's thread, or why not.
 pub enum Start {
@@ -83,7 +83,7 @@ pub fn start_check(message: &[u8]) -> Start
 }
 
 // The thread of a start; 0 for a refused one.
-pub fn start_thread(start: Start) -> u8
+fn start_thread(start: Start) -> u8
     ensures { λ r. ⌜ r ≡ threadOf start ⌝ }
 {
     match start {
@@ -94,7 +94,7 @@ pub fn start_thread(start: Start) -> u8
 
 // The data to cut, as a part of the message; the empty part where the start is refused.
 pub fn part_to_cut(message: &[u8]) -> &[u8]
-    ensures { λ r. ⌜ now r ≡ toCut (now (message .entry)) ⌝ }
+    ensures { λ r. ⌜ PartToCut (message .entry) r ⌝ }
 {
     match start_check(message) {
         Start::Ready(_) => message::data_part(message),
@@ -168,7 +168,7 @@ pub fn over<'a>(part: &'a [u8], thread: u8) -> Cutter<'a>
 
 // A cutter over the data of a message.
 pub fn begin<'a>(message: &'a [u8]) -> Begun<'a>
-    ensures { λ r. ⌜ Begins (now (message .entry)) r ⌝ }
+    ensures { λ r. ⌜ Begins (message .entry) r ⌝ }
 {
     let start = start_check(message);
     let thread = start_thread(start);

@@ -5,7 +5,8 @@ use mathlib.Core.Bool.{Bool, true, false, not, cond, _&&_, _||_}
 use mathlib.Core.List.{List, [], _∷_, _++_}
 use lib.Dec.{eqb, ltb, leb}
 use lib.ListN.{length, take, drop, getD, set, replicate}
-use Rattle.lists.specs.Lists.{checks, onto}
+use denote.Ref.{RefT, now}
+use Rattle.lists.specs.Lists.{checks, onto, LiesAt}
 use Rattle.tapa.specs.Numbers.{wordAt, twoBytes}
 use Rattle.tapa.specs.Codes.{response, iccCommand, done}
 use Rattle.tapa.specs.declared.Refusal.the-variants.{TooShort, TooLong, SizeDisagrees, ThreadAbove7, BufferTooSmall, NotThisPartsMessage, NoSourceKept, StatusNotUsable}
@@ -152,6 +153,11 @@ abbrev pub partFor : Answer → List ℕ → List ℕ
 partFor (Message n) buffer = cond (leb n (length buffer)) (take n buffer) []
 partFor More buffer = []
 partFor (Refused r) buffer = []
+
+-- the part handed on: its bytes, and that it stands at the start of the buffer itself
+pub record PartFor (answer : Answer) (buffer part : RefT (List ℕ)) : Type 0 where
+  pub bytes : now part ≡ partFor answer (now buffer)
+  pub place : LiesAt 0 buffer part
 
 -- ---- Get Next (Table 116): CLA 'B0', INS 'FC', P1 the thread, P2 '00', Le '00'
 

@@ -17,7 +17,7 @@ ghost use mathlib.Core.Path.{_≡_};
 ghost use Prim.Native.Nat.{_+_, _-_, _≤_};
 ghost use lib.ListN.{length, take};
 ghost use Rattle.lists.specs.Lists.{onto};
-ghost use Rattle.joiner.specs.Joining.{freshJoiner, counting, withSource, takingOf, joinedWith, wholeOf, wholeAnswer, wholeBytes, completed, Joins, partFor, Asks, keptOf};
+ghost use Rattle.joiner.specs.Joining.{freshJoiner, counting, withSource, takingOf, joinedWith, wholeOf, wholeAnswer, wholeBytes, completed, Joins, PartFor, Asks, keptOf};
 
 // The status of a piece that more follow, and of the last.
 const MORE_DATA: u16 = 0x9601;
@@ -79,7 +79,7 @@ pub fn fresh() -> Joiner
 }
 
 // What a piece is after so many joined bytes.
-pub fn check_piece(joined: usize, piece: &[u8]) -> Taking
+fn check_piece(joined: usize, piece: &[u8]) -> Taking
     ensures { λ r. ⌜ r ≡ takingOf joined (now (piece .entry)) ⌝ }
 {
     let n = piece.len();
@@ -142,7 +142,7 @@ impl Joiner {
     }
 
     // What the joined bytes are, once the last piece is there.
-    pub fn judge(self, message: &[u8]) -> Whole
+    fn judge(self, message: &[u8]) -> Whole
         ensures { λ r. ⌜ r ≡ wholeOf self (now (message .entry)) ⌝ }
     {
         let m = message.len();
@@ -272,7 +272,7 @@ impl Joiner {
 
 // The message that an answer hands on, as a part of the buffer; the empty part for any other.
 pub fn joined_part(answer: Answer, buffer: &[u8]) -> &[u8]
-    ensures { λ r. ⌜ now r ≡ partFor answer (now (buffer .entry)) ⌝ }
+    ensures { λ r. ⌜ PartFor answer (buffer .entry) r ⌝ }
 {
     match answer {
         Answer::Message(n) => {

@@ -1,5 +1,5 @@
 -- `cutter::begin` meets its contract: a walk of its MIR, by hand. The message is passed to `start_check` and to `part_to_cut`, the start to `start_thread`, and the part with the thread to `over`.
--- All that the proof knows of the four is that each meets its contract. Of the part it is known which list it refers to, and neither its pointer nor its ghost name: the contract says the list.
+-- All that the proof knows of the four is that each meets its contract. Of the part its bytes and its place in the message are known, and not its ghost name: the contract says both.
 -- Assumes nothing.
 use mathlib.Core.Path.{_≡_, refl, ap, _∙_}
 use Prim.Native.Nat.{ℕ, _<_, _^_}
@@ -41,7 +41,7 @@ use denote.Triple.Table.{entered, cited}
 use denote.Triple.Walked.{says, Stays, stay-none-slice, walkOf, goes-none-slice, Walks, ends-at, walked, walk-meets}
 use denote.Exit.{yes}
 use denote.Triple.Clauses.{ensured, lasts}
-use Rattle.cutter.specs.Cutting.{startOf, threadOf, toCut, cutterAt}
+use Rattle.cutter.specs.Cutting.{startOf, threadOf, PartToCut, cutterAt}
 use Rattle.cutter.specs.declared.Start.{Start}
 use Rattle.cutter.specs.declared.Cutter.{Cutter}
 use Rattle.cutter.specs.declared.Begun.{Begun}
@@ -95,8 +95,8 @@ module _ {M : Type 1} (𝓤 : URA M) (H : Heap 𝓤) (A : Atoms 𝓤) (mem : Mem
   thread-of : (n : Start) (t : ℕ) → ent 𝓤 (ensured 𝓤 H A thr.ended (thr.clauses 𝓤 H A mem run) tt (n, tt) tt t) (fact 𝓤 (t ≡ threadOf n))
   thread-of n t = exE 𝓤 _ (λ ws. snd∗ 𝓤 (sem 𝓤 H A (lasts thr.ended tt (n, tt) ws)) (fact 𝓤 (t ≡ threadOf n)))
 
-  part-of : (κ : Lft) (x z : RefT (List ℕ)) → ent 𝓤 (ensured 𝓤 H A part-to.ended (part-to.clauses 𝓤 H A mem run) (κ, tt) (x, tt) tt z) (fact 𝓤 (now z ≡ toCut (now x)))
-  part-of κ x z = exE 𝓤 _ (λ ws. snd∗ 𝓤 (sem 𝓤 H A (lasts part-to.ended (κ, tt) (x, tt) ws)) (fact 𝓤 (now z ≡ toCut (now x))))
+  part-of : (κ : Lft) (x z : RefT (List ℕ)) → ent 𝓤 (ensured 𝓤 H A part-to.ended (part-to.clauses 𝓤 H A mem run) (κ, tt) (x, tt) tt z) (fact 𝓤 (PartToCut x z))
+  part-of κ x z = exE 𝓤 _ (λ ws. snd∗ 𝓤 (sem 𝓤 H A (lasts part-to.ended (κ, tt) (x, tt) ws)) (fact 𝓤 (PartToCut x z)))
 
   over-of : (κ : Lft) (x : RefT (List ℕ)) (t : ℕ) (r : Cutter) → ent 𝓤 (ensured 𝓤 H A over.ended (over.clauses 𝓤 H A mem run) (κ, tt) (x, (t, tt)) tt r) (fact 𝓤 (r ≡ cutterAt x t 0))
   over-of κ x t r = exE 𝓤 _ (λ ws. snd∗ 𝓤 (sem 𝓤 H A (lasts over.ended (κ, tt) (x, (t, tt)) ws)) (fact 𝓤 (r ≡ cutterAt x t 0)))
@@ -168,7 +168,7 @@ module _ {M : Type 1} (𝓤 : URA M) (H : Heap 𝓤) (A : Atoms 𝓤) (W : Given
   typed : (n : Start) (z : RefT (List ℕ)) (t : ℕ) (w : Val) → Is E.the-row n (start-val n ∷ []) → Is (T.the-row α) (cutterAt z t 0) (w ∷ []) → Holds (hasTy (Z′.mir (named 0)) (mach-of n z t)) × WT (mach-of n z t)
   typed n z t w isn is = LL.lawful (Z.the-type α) (Z′.the-laws α) 𝓤 H A W .typed (made n z t) _ (LL.owes (Z.the-type α) (Z′.the-laws α) (made n z t) (isn, (LL.owes (T.the-type α) (T′.the-laws α) (cutterAt z t 0) (LL.owed (T.the-type α) (T′.the-laws α) (cutterAt z t 0) _ is), tt))) .0
 
-  exits : (n : Start) (z : RefT (List ℕ)) (t : ℕ) (w : Val) → Is E.the-row n (start-val n ∷ []) → Is (T.the-row α) (cutterAt z t 0) (w ∷ []) → n ≡ startOf (now x) → t ≡ threadOf n → now z ≡ toCut (now x)
+  exits : (n : Start) (z : RefT (List ℕ)) (t : ℕ) (w : Val) → Is E.the-row n (start-val n ∷ []) → Is (T.the-row α) (cutterAt z t 0) (w ∷ []) → n ≡ startOf (now x) → t ≡ threadOf n → PartToCut x z
       → ent 𝓤 (⋆ 𝓤 H A (‵ (T.the-row α .own (cutterAt z t 0) (w ∷ [])) ∷ Tok ∷ ‵ Own ∷ [])) (Post (mach-of n z t))
   exits n z t w isn is e et ez =
       qed W (‵ (T.the-row α .own (cutterAt z t 0) (w ∷ [])) ∷ Tok ∷ ‵ Own ∷ []) ∵
@@ -201,7 +201,7 @@ module _ {M : Type 1} (𝓤 : URA M) (H : Heap 𝓤) (A : Atoms 𝓤) (W : Given
         use2 W (raw (PartTo 𝓤 H A mem run .pre to-part) ⊛ ‵ Own) (twice _ (goes x v _ (id⊢ 𝓤 _))) $ split ! $
         calls-at ! fm (PartTo 𝓤 H A mem run) known-part to-part (and-then ! (load ! (from ! (stop !)) (look ! 11 refl)) (no-more !)) (λ w₂.
         use1 W (later (some (λ (z : RefT (List ℕ)). (Tok ⊛ ‵ (Slice .own z (w₂ ∷ []))) ⊛ raw (ensured 𝓤 H A part-to.ended (part-to.clauses 𝓤 H A mem run) (κ, tt) (x, tt) tt z)))) (id⊢ 𝓤 _) $ await ! tt $ pick ! (λ z.
-        split ! $ move ! (1 ∷ []) $ use1 W (raw (fact 𝓤 (now z ≡ toCut (now x)))) (part-of 𝓤 H A mem run κ x z) $ heard ! (now z ≡ toCut (now x)) (λ ez. split ! $ move ! (1 ∷ []) $ peeks ! Slice (Is Slice) (shows 𝓤 H A Slice) z (w₂ ∷ []) (λ isz.
+        split ! $ move ! (1 ∷ []) $ use1 W (raw (fact 𝓤 (PartToCut x z))) (part-of 𝓤 H A mem run κ x z) $ heard ! (PartToCut x z) (λ ez. split ! $ move ! (1 ∷ []) $ peeks ! Slice (Is Slice) (shows 𝓤 H A Slice) z (w₂ ∷ []) (λ isz.
         -- [what the part owns; the token; what the message owns; true; _5; …]
         land ! (from ! (stop !)) (init ! 4 refl (shr-slice-lawful 𝓤 H A W erased κ u8 .typed z _ isz .0)) $
         -- `over`

@@ -83,8 +83,8 @@ module _ {M : Type 1} (𝓤 : URA M) (H : Heap 𝓤) (A : Atoms 𝓤) (mem : Mem
   abbrev Next : Contract 𝓤
   Next = tripleOf 𝓤 H A next.signature (next.spec 𝓤 H A mem run)
 
-  begin-of : (κ : Lft) (x : RefT (List ℕ)) (r : Begun) → ent 𝓤 (ensured 𝓤 H A begin.ended (begin.clauses 𝓤 H A mem run) (κ, tt) (x, tt) tt r) (fact 𝓤 (Begins (now x) r))
-  begin-of κ x r = exE 𝓤 _ (λ ws. snd∗ 𝓤 (sem 𝓤 H A (lasts begin.ended (κ, tt) (x, tt) ws)) (fact 𝓤 (Begins (now x) r)))
+  begin-of : (κ : Lft) (x : RefT (List ℕ)) (r : Begun) → ent 𝓤 (ensured 𝓤 H A begin.ended (begin.clauses 𝓤 H A mem run) (κ, tt) (x, tt) tt r) (fact 𝓤 (Begins x r))
+  begin-of κ x r = exE 𝓤 _ (λ ws. snd∗ 𝓤 (sem 𝓤 H A (lasts begin.ended (κ, tt) (x, tt) ws)) (fact 𝓤 (Begins x r)))
 
 module _ {M : Type 1} (𝓤 : URA M) (H : Heap 𝓤) (A : Atoms 𝓤) (W : Given 𝓤 H A) (mem : Memory → SProp 𝓤) (run : Routine → Fun 𝓤) (κ κ₁ : Lft) (q q₁ : Share) (x x₁ : RefT (List ℕ)) where
   abbrev κs : Lfts 2
@@ -157,12 +157,12 @@ module _ {M : Type 1} (𝓤 : URA M) (H : Heap 𝓤) (A : Atoms 𝓤) (W : Given
     is-made : Is Y.the-row (made b s) (LL.vals Y.the-type Y′.the-laws (made b s))
     is-made = LL.owes Y.the-type Y′.the-laws (made b s) (LL.owed (B.the-type α) (B′.the-laws α) b _ is₀ .0, (LL.owed (Z.the-type α) (Z′.the-laws α) s _ is₁ .0, (LL.owed (T.the-type α) (T′.the-laws α) (s .rest) _ (LL.owed (Z.the-type α) (Z′.the-laws α) s _ is₁ .1 .0) .1 .1 .0, tt)))
 
-    exits : (zs : List ℕ) → Begins (now x) b → Steps (b .cutter) (now x₁) zs s → length zs ≡ length (x₁ .now)
+    exits : (zs : List ℕ) → Begins x b → Steps (b .cutter) (now x₁) zs s → length zs ≡ length (x₁ .now)
         → ent 𝓤 (⋆ 𝓤 H A ((‵ (flft κ q) ⊛ ‵ (flft κ₁ q₁) ⊛ ‵ ftrue) ∷ ‵ (finally u8 (x₁ .name) zs) ∷ ‵ Own ∷ [])) (Post (LL.val Y.the-type Y′.the-laws (made b s)))
     exits zs e₀ e₁ n =
         qed W ((‵ (flft κ q) ⊛ ‵ (flft κ₁ q₁) ⊛ ‵ ftrue) ∷ ‵ (finally u8 (x₁ .name) zs) ∷ ‵ Own ∷ []) ∵
         suffices ! _ (ends-at 𝓤 H A f.ended stayed (f.clauses 𝓤 H A mem run) W ((κs, qs, tt, a, vals), tt) (LL.val Y.the-type Y′.the-laws (made b s)) (made b s) (tt, (zs, tt)) (tt, (n, tt))) $
-        says ! (first-made (now x) (now x₁) zs b s e₀ e₁) $
+        says ! (first-made x (now x₁) zs b s e₀ e₁) $
         frame ! $ nothing ! $ move ! (1 ∷ 0 ∷ []) $ fjoin ! $ move ! (1 ∷ 0 ∷ []) $ fjoin ! $ frame ! $
         owned ! Y.the-row (Is Y.the-row) (LL.makes Y.the-type Y′.the-plain 𝓤 H A) (made b s) _ is-made $ done !
 
@@ -179,7 +179,7 @@ module _ {M : Type 1} (𝓤 : URA M) (H : Heap 𝓤) (A : Atoms 𝓤) (W : Given
         move ! (2 ∷ 5 ∷ []) $ use2 W (raw (Begin 𝓤 H A mem run .pre to-begin)) goes-begin $
         calls-at ! fm (Begin 𝓤 H A mem run) known-begin to-begin (and-then ! (load ! (from ! (stop !)) (look ! 24 refl)) (no-more !)) (λ u₀.
         use1 W (later (some (λ (r : Begun). ((‵ (flft κ q) ⊛ ‵ ftrue) ⊛ ‵ (B.the-row α .own r (u₀ ∷ []))) ⊛ raw (ensured 𝓤 H A begin.ended (begin.clauses 𝓤 H A mem run) (κ, tt) (x, tt) tt r)))) (id⊢ 𝓤 _) $ await ! tt $ pick ! (λ b.
-        split ! $ move ! (1 ∷ []) $ use1 W (raw (fact 𝓤 (Begins (now x) b))) (begin-of 𝓤 H A mem run κ x b) $ heard ! (Begins (now x) b) (λ e₀.
+        split ! $ move ! (1 ∷ []) $ use1 W (raw (fact 𝓤 (Begins x b))) (begin-of 𝓤 H A mem run κ x b) $ heard ! (Begins x b) (λ e₀.
         split ! $ move ! (1 ∷ []) $ peeks ! (B.the-row α) (Is (B.the-row α)) (shows 𝓤 H A (B.the-row α)) b (u₀ ∷ []) (λ is₀.
         -- [what was begun owns; κ's token; κ₁'s; true; what the buffer owns; true; what the message owns; _10; …]
         land ! (from ! (stop !)) (init ! 21 refl (LL.lawful (B.the-type αᵉ) (B′.the-laws αᵉ) 𝓤 H A W .typed b _ is₀ .0)) $ rewrite ! 21 (λ (w : Val). ‵ (fat fullShare (B′.mir erased) l₃ 0 w)) (ap only (LL.tells (B.the-type α) (B′.the-laws α) b _ is₀)) refl $

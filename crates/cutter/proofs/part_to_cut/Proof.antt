@@ -1,6 +1,6 @@
 -- `cutter::part_to_cut` meets its contract. Assumes nothing.
-use mathlib.Core.Path.{sym, _∙_}
-use Rattle.cutter.proofs.Laws.{cuts-part, cuts-none}
+use mathlib.Core.Path.{refl, sym, _∙_}
+use Rattle.cutter.proofs.Laws.{hands-part, hands-none}
 use borrow.Author.Needs.{needs}
 use Rattle.cutter.proofs.part_to_cut.Statement.{statement}
 use Rattle.cutter.proofs.part_to_cut.Tie as tie
@@ -27,10 +27,17 @@ part-result-end : tie.Need-part-result-end
 part-result-end c = search needs
 
 returns : tie.Need-returns
-returns c = c .data-part .ensures ∙ sym (cuts-part (c .before .before .before .before .before .args .message .now) _ (sym (c .before .before .before .start-check .ensures) ∙ c .before .enum-told .given .1))
+returns c =
+    hands-part (c .before .before .before .before .before .args .message) _ _
+    (sym (c .before .before .before .start-check .ensures) ∙ c .before .enum-told .given .1)
+    (c .data-part .ensures)
 
 returns-2 : tie.Need-returns-2
-returns-2 c = sym (cuts-none (c .before .before .before .before .before .args .message .now) _ (sym (c .before .before .before .start-check .ensures) ∙ c .before .enum-told2 .given .1))
+returns-2 c =
+    hands-none (c .before .before .before .before .before .args .message) _ _
+    (sym (c .before .before .before .start-check .ensures) ∙ c .before .enum-told2 .given .1)
+    refl
+    refl
 
 pub part-to-cut-spec : {M : Type 1} → statement M
 part-to-cut-spec =

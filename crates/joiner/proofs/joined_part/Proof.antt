@@ -1,5 +1,6 @@
 -- `joiner::joined_part` meets its contract: the part is the start of the buffer, or empty. Assumes nothing.
 use Rattle.joiner.proofs.Laws.{part-whole, part-beyond}
+use mathlib.Core.Path.{refl}
 use borrow.Author.Needs.{needs}
 use Rattle.joiner.proofs.joined_part.Statement.{statement}
 use Rattle.joiner.proofs.joined_part.Tie as tie
@@ -50,10 +51,10 @@ part-result-end-4 : tie.Need-part-result-end-4
 part-result-end-4 c = search needs
 
 returns : tie.Need-returns
-returns c = part-whole (c .before .before .before .before .before .args .answer) _ (c .before .before .before .before .before .args .buffer .now) (c .before .before .before .answer .given .1) (c .before .if1 .taken)
+returns c = record { place = refl; bytes = part-whole (c .before .before .before .before .before .args .answer) _ (c .before .before .before .before .before .args .buffer .now) (c .before .before .before .answer .given .1) (c .before .if1 .taken) }
 
 returns-2 : tie.Need-returns-2
-returns-2 c = part-beyond (c .before .before .before .before .before .args .answer) _ (c .before .before .before .before .before .args .buffer .now) (c .before .before .before .answer .given .1) (c .before .if1 .left)
+returns-2 c = record { place = refl; bytes = part-beyond (c .before .before .before .before .before .args .answer) _ (c .before .before .before .before .before .args .buffer .now) (c .before .before .before .answer .given .1) (c .before .if1 .left) }
 
 returns-3 : tie.Need-returns-3
 returns-3 c = search needs
