@@ -302,6 +302,17 @@ module _ (j : Joiner) (p b : List ℕ) where
           buffer = rw (le-ltb (length b) 1032 l, e) (ea ∙ (λ i. onto (wholeBytes (wholeOf j (start i)) (start i)) (eh i)) ∙ onto-over (wholeBytes (wholeOf j s) s) s b (whole-longer (wholeOf j s) s));
         }
 
+-- a count stays at most 1,032: no function has to ask for it, and every joiner that is handed back has it
+pub few-joined : (j : Joiner) (p b : List ℕ) → j .joined ≤ 1032 → nextOf j p b .joined ≤ 1032
+unfolding nextOf
+few-joined j p b l = go (ltb (length b) 1032) (takingOf (j .joined) p) refl
+  where
+    go : (x : Bool) (t : Taking) → takingOf (j .joined) p ≡ t → cond x j (counting j (countTo t (j .joined + (length p - 2)))) .joined ≤ 1032
+    go true t e = l
+    go false (NotTaken r) e = omega arith
+    go false NotLast e = taken-more (j .joined) p e .fits
+    go false Last e = omega arith
+
 -- ---- the part that an answer hands on
 pub part-whole : (a : Answer) (n : ℕ) (b : List ℕ) → a ≡ Message n → n ≤ length b → take (n - 0) (drop 0 b) ≡ partFor a b
 part-whole a n b e l = prefix n b ∙ sym (rw (e, le-leb n (length b) l))
