@@ -1,7 +1,6 @@
 -- Laws of the cutter's definitions: what a start and a handing out answer, check by check, and what is written.
 use Prim.Native.Nat.{ℕ, _+_, _-_, _≤_, _<_}
 use mathlib.Core.Path.{_≡_, refl, sym, ap, _∙_}
-use mathlib.Core.Bool.{Bool, true, false, not, cond}
 use mathlib.Core.List.{List, [], _∷_, _++_}
 use native.Mathlib.Omega.{arith}
 use lib.ListN.{length, take, drop, set, length-append, length-drop}
@@ -16,14 +15,11 @@ use Rattle.tapa.specs.declared.Refusal.the-variants.{ThreadAbove7, NoResponseCo
 use Rattle.message.specs.Message.{readOf, partOf, DataPart}
 use Rattle.message.specs.declared.Head.{Head}
 use Rattle.message.specs.declared.Reading.the-variants.{Message, Refused as Unread}
-use Rattle.cutter.specs.declared.Start.{Start}
 use Rattle.cutter.specs.declared.Start.the-variants.{Ready, Refused as NotReady}
-use Rattle.cutter.specs.declared.Cut.{Cut}
 use Rattle.cutter.specs.declared.Cut.the-variants.{Command, Done, Refused}
-use Rattle.cutter.specs.declared.Handed.{Handed}
 use Rattle.cutter.specs.declared.Step.{Step}
 use Rattle.cutter.specs.declared.Begun.{Begun}
-use Rattle.cutter.specs.Cutting.{startOf, toCut, PartToCut, commandHead, commandOf, pieceAt, p2At, commandAt, cutAt, placeAfter, writtenAt, HandsOut, Steps, Begins, Firsts}
+use Rattle.cutter.specs.Cutting.{startOf, toCut, PartToCut, commandHead, commandOf, pieceAt, p2At, cutAt, placeAfter, writtenAt, HandsOut, Steps, Begins, Firsts}
 
 -- ---- the start
 module _ (s : List ℕ) where

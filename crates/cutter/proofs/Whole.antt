@@ -1,17 +1,15 @@
 -- The commands together carry the whole response, and no more of them are handed out than it takes.
-use Prim.Native.Nat.{ℕ, zero, suc, _+_, _-_, _/_, _≤_, _<_}
+use Prim.Native.Nat.{ℕ, zero, suc, _+_, _-_, _≤_, _<_}
 use mathlib.Core.Path.{_≡_, refl, sym, ap, _∙_}
-use mathlib.Core.Bool.{Bool, true, false, cond}
+use mathlib.Core.Bool.{Bool, true, false}
 use mathlib.Core.List.{List, [], _∷_, _++_}
 use native.Mathlib.Omega.{arith}
 use lib.Dec.{leb}
-use lib.ListN.{length, take, drop, getD, length-append, length-take, length-drop, take-append-drop, drop-of-length-le}
-use lib.Seq.{take-all, take-nil, take-at, take-append-seam, drop-drop, drop-length}
-use borrow.Author.Tests.{ltb-true, leb-true, leb-false, le-leb, lt-leb}
-use Rattle.lists.specs.Lists.{one, count, onto}
-use Rattle.cutter.specs.declared.Cut.{Cut}
-use Rattle.cutter.specs.declared.Cut.the-variants.{Command, Done, Refused}
-use Rattle.cutter.specs.Cutting.{commandOf, pieceAt, p2At, commandAt, cutAt, placeAfter, writtenAt}
+use lib.ListN.{length, take, drop, length-append, length-drop, take-append-drop, drop-of-length-le}
+use lib.Seq.{take-all, take-nil, take-at, take-append-seam, drop-drop}
+use borrow.Author.Tests.{leb-true, leb-false}
+use Rattle.lists.specs.Lists.{count, onto}
+use Rattle.cutter.specs.Cutting.{commandOf, pieceAt, p2At, commandAt, cutAt, writtenAt}
 use Rattle.cutter.specs.Handing.{commandCount, commandsFrom, commandsOf, p2Of, dataOf, together, IsLast, IsMore, Shaped, handedOut, handedBy, longEnough}
 use Rattle.cutter.proofs.Laws.{full-length, last-length, more-p2, last-p2, hands-small, hands-done, hands-out}
 

@@ -1,24 +1,24 @@
 -- Every way of cutting a message into pieces joins to the same message.
-use Prim.Native.Nat.{ℕ, zero, suc, _+_, _*_, _-_, _/_, _%_, _≤_, _<_}
+use Prim.Native.Nat.{ℕ, _+_, _*_, _-_, _≤_}
 use mathlib.Core.Path.{_≡_, refl, sym, ap, _∙_}
-use mathlib.Core.Bool.{Bool, true, false}
+use mathlib.Core.Bool.{true, false}
 use mathlib.Core.List.{List, [], _∷_, _++_, append-assoc}
 use native.Mathlib.Omega.{arith}
-use lib.ListN.{length, take, drop, getD, replicate, length-append, length-drop}
+use lib.ListN.{length, take, drop, getD, replicate, length-append}
 use lib.Seq.{length-take-le, take-append-seam, take-at, getD-at, getD-append-add}
 use borrow.Author.Tests.{le-ltb, le-leb}
 use Rattle.lists.specs.Lists.{All, onto}
 use Rattle.lists.proofs.Onto.{onto-length}
-use Rattle.tapa.specs.Numbers.{wordAt, twoBytes}
+use Rattle.tapa.specs.Numbers.{twoBytes}
 use Rattle.tapa.specs.Codes.{response, done}
 use Rattle.message.specs.Message.{headBytes, messageOf}
 use Rattle.joiner.specs.declared.Joiner.{Joiner}
 use Rattle.joiner.specs.declared.Taking.the-variants.{NotLast, Last}
 use Rattle.joiner.specs.declared.Whole.{Whole}
-use Rattle.joiner.specs.declared.Whole.the-variants.{Plain, Response, Refused as NotWhole}
+use Rattle.joiner.specs.declared.Whole.the-variants.{Plain, Response}
 use Rattle.joiner.specs.declared.Answer.{Answer}
 use Rattle.joiner.specs.declared.Answer.the-variants.{More, Message}
-use Rattle.joiner.specs.Joining.{counting, statusOf, dataOf, takingOf, joinedWith, wholeOf, completed, wholeAnswer, wholeBytes, answerOf, nextOf, bufferOf, partFor}
+use Rattle.joiner.specs.Joining.{counting, dataOf, takingOf, joinedWith, wholeOf, completed, wholeAnswer, wholeBytes, answerOf, nextOf, bufferOf, partFor}
 use Rattle.joiner.specs.Sending.{together, sent, Small, responseSent, answersBy, joinerBy, bufferBy, Delivers}
 use Rattle.joiner.proofs.Laws.{takes-last, takes-more, onto-over, whole-longer, whole-plain, whole-response}
 

@@ -1,18 +1,18 @@
 -- Laws of the joiner's definitions: what a piece and the whole are, check by check, and what is written.
-use Prim.Native.Nat.{ℕ, zero, suc, _+_, _*_, _-_, _/_, _%_, _≤_, _<_}
+use Prim.Native.Nat.{ℕ, _+_, _*_, _-_, _/_, _%_, _≤_, _<_}
 use mathlib.Core.Path.{_≡_, refl, sym, ap, _∙_}
 use mathlib.Core.Bool.{Bool, true, false, not, cond, _&&_, _||_}
-use mathlib.Core.List.{List, [], _∷_, _++_, append-assoc}
+use mathlib.Core.List.{List, [], _∷_, _++_}
 use native.Mathlib.Nat.{le-refl, min-le-left}
 use native.Mathlib.Numerals.{add-one}
 use native.Mathlib.Omega.{arith}
 use lib.Dec.{eqb, ltb}
 use lib.ListN.{length, take, drop, getD, set, length-append, length-take, length-drop, take-append-drop}
-use lib.Seq.{length-take-le, sets, sets-eq, drop-append-le, drop-append-add, drop-drop, take-at}
-use borrow.Author.Tests.{lt-ltb, le-ltb, le-leb, lt-leb, eq-eqb, ne-eqb, ltb-true, ltb-false, eqb-true, eqb-false, not-false}
+use lib.Seq.{length-take-le, sets-eq, drop-append-le, drop-append-add, drop-drop, take-at}
+use borrow.Author.Tests.{lt-ltb, le-ltb, le-leb, lt-leb, eq-eqb, ne-eqb, ltb-false, eqb-true}
 use borrow.Rule.Slice.PartMut.{putMid}
 use Rattle.lists.specs.Lists.{onto}
-use Rattle.lists.proofs.Onto.{onto-length, onto-then, onto-stores}
+use Rattle.lists.proofs.Onto.{onto-then, onto-stores}
 use Rattle.tapa.specs.Numbers.{wordAt, twoBytes}
 use Rattle.tapa.specs.declared.Refusal.{Refusal}
 use Rattle.tapa.specs.declared.Refusal.the-variants.{TooShort, TooLong, SizeDisagrees, ThreadAbove7, BufferTooSmall, NotThisPartsMessage, NoSourceKept, StatusNotUsable}
@@ -27,9 +27,7 @@ use Rattle.joiner.specs.declared.Whole.the-variants.{Plain, Response, Re
 use Rattle.joiner.specs.declared.Answer.{Answer}
 use Rattle.joiner.specs.declared.Answer.the-variants.{More, Message, Refused}
 use Rattle.joiner.specs.declared.Keeping.the-variants.{Done, Refused as NotKept}
-use Rattle.joiner.specs.declared.Kept.{Kept}
-use Rattle.joiner.specs.declared.Joined.{Joined}
-use Rattle.joiner.specs.Joining.{counting, withSource, statusOf, dataOf, takingOf, joinedWith, isResponse, dueFor, wholeOf, completed, wholeAnswer, wholeBytes, answerTo, countTo, bufferTo, answerOf, nextOf, bufferOf, Joins, partFor, keptOf}
+use Rattle.joiner.specs.Joining.{counting, withSource, statusOf, dataOf, takingOf, joinedWith, isResponse, dueFor, wholeOf, completed, wholeAnswer, wholeBytes, countTo, answerOf, nextOf, bufferOf, Joins, partFor, keptOf}
 
 -- ---- one piece
 module _ (joined : ℕ) (p : List ℕ) where

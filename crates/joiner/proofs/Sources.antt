@@ -1,24 +1,20 @@
 -- After any calls, the source held for a thread is that of the last '42' command kept on it: joining and refusals leave it.
 use Prim.Native.Nat.{ℕ, _+_, _-_, _≤_, _<_}
 use mathlib.Core.Path.{_≡_, refl, sym, ap, _∙_}
-use mathlib.Core.Bool.{Bool, true, false, not, cond, _&&_}
+use mathlib.Core.Bool.{Bool, true, false, cond}
 use mathlib.Core.List.{List, [], _∷_}
-use mathlib.Core.Option.{Option, none, some}
+use mathlib.Core.Option.{none, some}
 use native.Mathlib.Omega.{arith}
 use lib.Dec.{eqb, ltb, leb}
-use lib.ListN.{length, getD, set, length-set, getD-replicate}
+use lib.ListN.{length, length-set, getD-replicate}
 use lib.Seq.{getD-set-same, getD-set-other}
 use borrow.Author.Tests.{ltb-true, ltb-false, eqb-true, eqb-false, le-leb, lt-leb}
 use Rattle.tapa.specs.Codes.{iccCommand}
-use Rattle.tapa.specs.declared.Refusal.the-variants.{ThreadAbove7, NotThisPartsMessage}
 use Rattle.message.specs.Message.{readOf}
 use Rattle.message.specs.declared.Head.{Head}
 use Rattle.message.specs.declared.Reading.{Reading}
 use Rattle.message.specs.declared.Reading.the-variants.{Message as Read, Refused as Unread}
 use Rattle.joiner.specs.declared.Joiner.{Joiner}
-use Rattle.joiner.specs.declared.Keeping.{Keeping}
-use Rattle.joiner.specs.declared.Keeping.the-variants.{Done, Refused as NotKept}
-use Rattle.joiner.specs.declared.Kept.{Kept}
 use Rattle.joiner.specs.Joining.{freshJoiner, counting, withSource, takingOf, countTo, nextOf, keepingOn, keeperOn, keptOf}
 use Rattle.joiner.specs.Sources.{sourceFor, Call, keeping, joining, joinerAfter, sourceIn, newer, lastSource}
 

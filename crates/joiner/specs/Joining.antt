@@ -11,7 +11,6 @@ use Rattle.tapa.specs.Numbers.{wordAt, twoBytes}
 use Rattle.tapa.specs.Codes.{response, iccCommand, done}
 use Rattle.tapa.specs.declared.Refusal.the-variants.{TooShort, TooLong, SizeDisagrees, ThreadAbove7, BufferTooSmall, NotThisPartsMessage, NoSourceKept, StatusNotUsable}
 use Rattle.message.specs.Message.{readOf}
-use Rattle.message.specs.declared.Head.{Head}
 use Rattle.message.specs.declared.Reading.{Reading}
 use Rattle.message.specs.declared.Reading.the-variants.{Message as Read, Refused as Unread}
 use Rattle.message.specs.declared.Writing.{Writing}

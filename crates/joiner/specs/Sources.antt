@@ -1,6 +1,6 @@
 -- 'the source kept from the thread's last '42' command': which one that is, after any calls.
 use Prim.Native.Nat.{ℕ}
-use mathlib.Core.Bool.{Bool, false, cond, _&&_}
+use mathlib.Core.Bool.{false, cond, _&&_}
 use mathlib.Core.List.{List, [], _∷_}
 use mathlib.Core.Option.{Option, none, some}
 use lib.Dec.{eqb, leb}
@@ -10,7 +10,6 @@ use Rattle.message.specs.Message.{readOf}
 use Rattle.message.specs.declared.Reading.{Reading}
 use Rattle.message.specs.declared.Reading.the-variants.{Message as Read, Refused as Unread}
 use Rattle.joiner.specs.declared.Joiner.{Joiner}
-use Rattle.joiner.specs.declared.Kept.{Kept}
 use Rattle.joiner.specs.Joining.{nextOf, keptOf}
 
 -- the source that a joiner holds for a thread

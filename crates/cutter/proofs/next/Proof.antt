@@ -26,7 +26,7 @@ use types.Run.{look, init, forget, stop, hop, fld, from, load, addr, of-opd, and
 use sound.WpLaws.{FmC, fmOf, WpFn-mono}
 use denote.RattleType.{RattleType, owns}
 use denote.Laws.{Is, shows}
-use denote.Plain.{uint-makes, uint-vals, uint-tells}
+use denote.Plain.{uint-makes}
 use denote.Builtin.{u8, usize}
 use denote.Ref.{RefT, NamedLft, now}
 use denote.Signature.{plain, namedLft}
