@@ -8,9 +8,12 @@ use lib.Dec.{leb}
 use lib.ListN.{length, take, drop, length-append, length-drop, take-append-drop, drop-of-length-le}
 use lib.Seq.{take-all, take-nil, take-at, take-append-seam, drop-drop}
 use borrow.Author.Tests.{leb-true, leb-false}
+use denote.Ref.{RefT, now}
 use Rattle.lists.specs.Lists.{count, onto}
-use Rattle.cutter.specs.Cutting.{commandOf, pieceAt, p2At, commandAt, cutAt, writtenAt}
-use Rattle.cutter.specs.Handing.{commandCount, commandsFrom, commandsOf, p2Of, dataOf, together, IsLast, IsMore, Shaped, handedOut, handedBy, longEnough}
+use Rattle.cutter.specs.declared.Cutter.{Cutter}
+use Rattle.cutter.specs.declared.Begun.{Begun}
+use Rattle.cutter.specs.Cutting.{toCut, commandOf, pieceAt, p2At, commandAt, cutAt, writtenAt, stepOf, Begins}
+use Rattle.cutter.specs.Handing.{commandCount, commandsFrom, commandsOf, p2Of, dataOf, together, IsLast, IsMore, Shaped, handedOut, handedBy, handedFrom, longEnough}
 use Rattle.cutter.proofs.Laws.{full-length, last-length, more-p2, last-p2, hands-small, hands-done, hands-out}
 
 -- ---- how many commands
@@ -19,12 +22,6 @@ count-none n e = omega arith
 
 count-more : (n m : ℕ) → suc m ≡ commandCount n → m ≡ commandCount (n - 248)
 count-more n m e = omega arith
-
-count-some : (n m : ℕ) → suc m ≡ commandCount n → 0 < n
-count-some n m e = omega arith
-
-count-next : (n : ℕ) → 0 < n → commandCount n ≡ suc (commandCount (n - 248))
-count-next n l = omega arith
 
 module _ (part : List ℕ) (thread : ℕ) where
   from-length : (m at : ℕ) → length (commandsFrom m part thread at) ≡ m
@@ -106,9 +103,6 @@ module _ (part : List ℕ) (thread : ℕ) where
       (omega (arith, length-append (pieceAt part at) (0 ∷ [])))
 
   module _ (at : ℕ) (b : List ℕ) (bs : List (List ℕ)) where
-    abbrev handed-first : List (List ℕ)
-    handed-first = handedOut (cutAt part at b) (writtenAt part thread at b)
-
     by-small : length b < 254 → handedBy part thread at (b ∷ bs) ≡ handedBy part thread at bs
     by-small l = rw (hands-small part b at l)
 
@@ -173,6 +167,21 @@ handed-whole part thread buffers l =
     let e : handedBy part thread 0 buffers ≡ commandsOf part thread =
     handed-in-order part thread buffers ∙ take-all (count longEnough buffers) (commandsOf part thread) (omega arith) in
     (e, rw e (carries part thread))
+
+-- ---- the same by a cutter
+from-cutter : (buffers : List (List ℕ)) (c : Cutter) → handedFrom c buffers ≡ handedBy (now (c .part)) (c .thread) (c .at) buffers
+from-cutter [] c = refl
+from-cutter (b ∷ bs) c =
+    ap (λ (cs : List (List ℕ)). handedOut (stepOf c b .cut) (writtenAt (now (c .part)) (c .thread) (c .at) b) ++ cs)
+    (from-cutter bs (stepOf c b .rest))
+
+-- a cutter over a message, with enough buffers, hands out all of the response's data and no more
+pub cutter-whole : (message : RefT (List ℕ)) (b : Begun) (buffers : List (List ℕ)) → Begins message b → commandCount (length (toCut (now message))) ≤ count longEnough buffers
+    → Carries (toCut (now message)) (handedFrom (b .cutter) buffers)
+cutter-whole message b buffers begins l =
+    let e : handedFrom (b .cutter) buffers ≡ handedBy (toCut (now message)) (b .cutter .thread) 0 buffers =
+    from-cutter buffers (b .cutter) ∙ (λ i. handedBy (begins .part .bytes i) (b .cutter .thread) (begins .at i) buffers) in
+    rw e (handed-whole (toCut (now message)) (b .cutter .thread) buffers l .1)
 
 -- ---- sums at the desk
 

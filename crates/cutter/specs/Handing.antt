@@ -5,9 +5,11 @@ use mathlib.Core.Bool.{Bool}
 use mathlib.Core.List.{List, [], _∷_, _++_}
 use lib.Dec.{leb}
 use lib.ListN.{length, take, drop, getD}
+use denote.Ref.{now}
 use Rattle.cutter.specs.declared.Cut.{Cut}
 use Rattle.cutter.specs.declared.Cut.the-variants.{Command, Done, Refused}
-use Rattle.cutter.specs.Cutting.{commandAt, cutAt, placeAfter, writtenAt}
+use Rattle.cutter.specs.declared.Cutter.{Cutter}
+use Rattle.cutter.specs.Cutting.{commandAt, cutAt, placeAfter, writtenAt, stepOf}
 
 -- ---- the commands of a response's data
 
@@ -65,6 +67,12 @@ handedBy part thread at [] = []
 handedBy part thread at (b ∷ bs) =
     handedOut (cutAt part at b) (writtenAt part thread at b)
     ++ handedBy part thread (placeAfter (cutAt part at b) part at) bs
+
+-- the same calls on a cutter, each on the one that the call before handed back
+abbrev pub handedFrom : Cutter → List (List ℕ) → List (List ℕ)
+handedFrom c [] = []
+handedFrom c (b ∷ bs) =
+    handedOut (stepOf c b .cut) (writtenAt (now (c .part)) (c .thread) (c .at) b) ++ handedFrom (stepOf c b .rest) bs
 
 -- a buffer that no handing out refuses
 abbrev pub longEnough : List ℕ → Bool
