@@ -1,0 +1,4 @@
+pub mod View
+pub mod Judge
+pub mod Apply
+pub mod Conduct
