@@ -1,0 +1,178 @@
+-- What the view was like where a call had an outcome. Every theorem about a step is drawn from here, and not from the text of `judge`.
+use Prim.Native.Nat.{ℕ, _≤_, _<_}
+use mathlib.Core.Path.{_≡_, refl, sym, ap, _∙_}
+use mathlib.Core.Bool.{Bool, true, false, not, _||_, _&&_, cond}
+use mathlib.Core.List.{List, [], _∷_}
+use mathlib.Core.Option.{Option, none, some}
+use lib.Dec.{eqb, leb, ltb}
+use lib.ListN.{length}
+use borrow.Author.Tests.{not-false, ltb-false, leb-false, eqb-true, eq-eqb}
+use Rattle.lists.specs.Lists.{checks, someOf, first}
+use Rattle.tapa.specs.Address.{handlerOf}
+use Rattle.tapa.specs.Codes.{response}
+use Rattle.tapa.specs.declared.Refusal.the-variants.{NotInTable, StandsInAWait}
+use Rattle.message.specs.declared.Head.{Head}
+use Rattle.message.specs.declared.Reading.{Reading}
+use Rattle.message.specs.declared.Reading.the-variants.{Message, Refused as Unread}
+use Rattle.message.specs.declared.Coded.{Coded}
+use Rattle.message.specs.declared.Coded.the-variants.{Code, Missing}
+use Rattle.message.specs.Message.{readOf, partOf, codeOf}
+use Rattle.table.specs.declared.Row.{Row}
+use Rattle.table.specs.Table.{listed, openedAt}
+use Rattle.tapa.specs.Codes.{eventHandler}
+use Rattle.places.specs.declared.Place.{Place}
+use Rattle.places.specs.Places.{isOpen, openOn, asksExactly, owesExactly, standsIn}
+use Rattle.rules.specs.View.{View}
+use Rattle.rules.specs.declared.Outcome.{Outcome}
+use Rattle.rules.specs.declared.Outcome.the-variants.{Passed, Answered, Swallowed, Event, Turned, Given, Reset, Refused}
+use Rattle.rules.specs.Judge.{ifExactly, answerable, replyTests, late, reply, judgeResponse, isAddEvent, judgeEvent, mayAsk, busy, rules, judgeCommand}
+use Rattle.rules.specs.Judge.{commonTests, judgeKind, judgeRead, judgeMessage, yields, judgeGiveUp, judgeReplaced, Call, message, giveUp, replaced, judge}
+use Rattle.rules.proofs.Lists.{split, differ, and-yes, checks-are, first-yes, first-strong}
+
+-- ---- an outcome, and what was so
+
+-- a passed command met every rule
+pub record Fit (v : View) (asker asked kind t : ℕ) : Type 0 where
+  pub asker-listed : listed (handlerOf asker) (v .rows) ≡ true
+  pub thread-small : t ≤ 7
+  pub asked-listed : listed (handlerOf asked) (v .rows) ≡ true
+  pub may : mayAsk (v .places) t asker ≡ true
+  pub free : busy (v .places) asker (handlerOf asked) t ≡ false
+  pub room : length (v .places) < 48
+
+-- the innermost wait of thread t asks exactly this address, for this asker
+pub record Innermost (v : View) (asker asked t : ℕ) : Type 0 where
+  pub it : Place
+  pub top : first (openOn t) (v .places) ≡ some it
+  pub found : first (asksExactly asked t) (v .places) ≡ some it
+  pub its-asked : it .asked ≡ asked
+  pub its-asker : it .asker ≡ asker
+  pub thread-small : t ≤ 7
+
+-- a replaced handler is in the table, and stands in no wait
+pub record Idle (v : View) (h : ℕ) : Type 0 where
+  pub in-table : listed h (v .rows) ≡ true
+  pub no-wait : someOf (standsIn h) (v .places) ≡ false
+
+abbrev pub Allowed : View → Outcome → Type 0
+Allowed v (Passed asker asked kind t) = Fit v asker asked kind t
+Allowed v (Answered asked asker t k) = Innermost v asker asked t
+Allowed v (Swallowed asked t) = (someOf (owesExactly asked t) (v .places) ≡ true) × (t ≤ 7)
+Allowed v Event = openedAt eventHandler (v .rows) ≡ true
+Allowed v (Turned asker asked t k) = (listed (handlerOf asker) (v .rows) ≡ true) × (t ≤ 7)
+Allowed v (Given asker asked t) = Innermost v asker asked t
+Allowed v (Reset h) = Idle v h
+Allowed v (Refused r) = Unit {0}
+
+-- ---- the innermost wait
+
+exactly : (a t : ℕ) (p : Place) → asksExactly a t p ≡ true → openOn t p ≡ true
+exactly a t p q = and-yes (openOn t p) (eqb (p .asked) a) q .0
+
+innermost-is : (v : View) (w : Place) (asker asked t : ℕ) → first (openOn t) (v .places) ≡ some w → w .asked ≡ asked → w .asker ≡ asker → t ≤ 7
+    → Innermost v asker asked t
+innermost-is v w asker asked t e p q small =
+    let x : asksExactly asked t w ≡ true = rw (first-yes (openOn t) (v .places) w e) (eq-eqb (w .asked) asked p) in
+    record {
+      it = w;
+      top = e;
+      found = first-strong (asksExactly asked t) (openOn t) (exactly asked t) (v .places) w e x .found;
+      its-asked = p;
+      its-asker = q;
+      thread-small = small;
+    }
+
+-- ---- Type 'FF'
+
+late-is : (v : View) (h : Head) → h .thread ≤ 7 → Allowed v (late (v .places) h)
+unfolding late
+late-is v h small = split (someOf (owesExactly (h .source) (h .thread)) (v .places)) (λ p. rw p (p, small)) (λ p. rw p tt)
+
+answerable-is : (a : ℕ) (o : Option Place) (w : Place) → ifExactly a o ≡ some w → (o ≡ some w) × (w .asked ≡ a)
+answerable-is a none w e = differ (cc)
+answerable-is a (some x) w e =
+    split (eqb (x .asked) a) (λ p. let e′ : some x ≡ some w = rw p at e in let k : x ≡ w = cc in (e′, rw (← k) (eqb-true (x .asked) a p)))
+    (λ p. let e′ : _≡_ {A = Option Place} none (some w) = rw p at e in differ (cc))
+
+reply-is : (v : View) (o : Option Place) (h : Head) (code : ℕ) → answerable (v .places) (h .source) (h .thread) ≡ o → h .thread ≤ 7
+    → Allowed v (reply (v .places) o h code)
+unfolding reply
+reply-is v none h code e small = late-is v h small
+reply-is v (some w) h code e small =
+    checks-are (Allowed v) (replyTests w h) (Answered (h .source) (h .destination) (h .thread) code) (tt, tt)
+    (λ p. let y = answerable-is (h .source) (first (openOn (h .thread)) (v .places)) w e in
+    innermost-is v w (h .destination) (h .source) (h .thread) (y .0) (y .1) (eqb-true (w .asker) (h .destination) (not-false _ (p .0))) small)
+
+response-is : (v : View) (h : Head) (code : Coded) → h .thread ≤ 7 → Allowed v (judgeResponse (v .places) h code)
+unfolding judgeResponse
+response-is v h Missing small = tt
+response-is v h (Code code) small = reply-is v (answerable (v .places) (h .source) (h .thread)) h code refl small
+
+-- ---- a command
+
+event-is : (v : View) → Allowed v (judgeEvent (v .rows))
+event-is v = split (openedAt eventHandler (v .rows)) (λ p. rw p p) (λ p. rw p tt)
+
+command-is : (v : View) (h : Head) → listed (handlerOf (h .source)) (v .rows) ≡ true → h .thread ≤ 7 → Allowed v (judgeCommand v h)
+unfolding judgeCommand
+command-is v h known small =
+    let back : (listed (handlerOf (h .source)) (v .rows) ≡ true) × (h .thread ≤ 7) = (known, small) in
+    checks-are (Allowed v) (rules v h) (Passed (h .source) (h .destination) (h .kind) (h .thread)) (back, (back, (back, (back, (back, (back, tt))))))
+    (λ a. record {
+      asker-listed = known;
+      thread-small = small;
+      asked-listed = not-false _ (a .0);
+      may = not-false _ (a .1 .1 .1 .0);
+      free = a .1 .1 .1 .1 .0;
+      room = leb-false 48 (length (v .places)) (a .1 .1 .1 .1 .1 .0);
+    })
+
+-- ---- a message
+
+kind-is : (v : View) (h : Head) (code : Coded) → listed (handlerOf (h .source)) (v .rows) ≡ true → h .thread ≤ 7 → Allowed v (judgeKind v h code)
+unfolding judgeKind
+kind-is v h code known small =
+    split (eqb (h .kind) response) (λ p. rw p (response-is v h code small))
+    (λ p. rw p (split (isAddEvent h) (λ q. rw q (event-is v)) (λ q. rw q (command-is v h known small))))
+
+read-is : (v : View) (r : Reading) (code : Coded) → Allowed v (judgeRead v r code)
+unfolding judgeRead
+read-is v (Unread r) code = tt
+read-is v (Message h) code =
+    checks-are (Allowed v) (commonTests (v .rows) h) (judgeKind v h code) (tt, (tt, tt))
+    (λ a. kind-is v h code (not-false _ (a .0)) (ltb-false 7 (h .thread) (a .1 .0)))
+
+message-is : (v : View) (room : ℕ) (s : List ℕ) → Allowed v (judgeMessage v room s)
+unfolding judgeMessage
+message-is v room s = split (ltb room 10) (λ p. rw p tt) (λ p. rw p (read-is v (readOf s) (codeOf (partOf s))))
+
+-- ---- Give up
+
+yields-is : (v : View) (t : ℕ) (o : Option Place) → first (openOn t) (v .places) ≡ o → t ≤ 7 → Allowed v (yields o)
+unfolding yields
+yields-is v t none e small = tt
+yields-is v t (some w) e small =
+    let y = and-yes (isOpen w) (eqb (w .thread) t) (first-yes (openOn t) (v .places) w e) in
+    let k : w .thread ≡ t = eqb-true (w .thread) t (y .1) in
+    rw k (innermost-is v w (w .asker) (w .asked) t e refl refl small)
+
+give-up-is : (v : View) (room t : ℕ) → Allowed v (judgeGiveUp v room t)
+unfolding judgeGiveUp
+give-up-is v room t =
+    split (ltb room 10) (λ p. rw p tt)
+    (λ p. rw p (split (ltb 7 t) (λ q. rw q tt) (λ q. rw q (yields-is v t (first (openOn t) (v .places)) refl (ltb-false 7 t q)))))
+
+-- ---- Replaced
+
+replaced-is : (v : View) (a : ℕ) → Allowed v (judgeReplaced v a)
+unfolding judgeReplaced
+replaced-is v a =
+    checks-are (Allowed v)
+    ((not (listed (handlerOf a) (v .rows)), Refused NotInTable) ∷ (someOf (standsIn (handlerOf a)) (v .places), Refused StandsInAWait) ∷ [])
+    (Reset (handlerOf a)) (tt, (tt, tt)) (λ p. record { in-table = not-false _ (p .0); no-wait = p .1 .0 })
+
+-- ---- any call, in any view
+pub allowed : (v : View) (room : ℕ) (c : Call) → Allowed v (judge v room c)
+allowed v room (message s) = message-is v room s
+allowed v room (giveUp t) = give-up-is v room t
+allowed v room (replaced a) = replaced-is v a
