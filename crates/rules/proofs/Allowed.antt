@@ -21,13 +21,14 @@ use Rattle.table.specs.declared.Row.{Row}
 use Rattle.table.specs.Table.{listed, openedAt}
 use Rattle.tapa.specs.Codes.{eventHandler}
 use Rattle.places.specs.declared.Place.{Place}
-use Rattle.places.specs.Places.{isOpen, openOn, asksExactly, owesExactly, standsIn}
+use Rattle.places.specs.Places.{openOn, asksExactly, owesExactly, standsIn}
 use Rattle.rules.specs.View.{View}
 use Rattle.rules.specs.declared.Outcome.{Outcome}
 use Rattle.rules.specs.declared.Outcome.the-variants.{Passed, Answered, Swallowed, Event, Turned, Given, Reset, Refused}
 use Rattle.rules.specs.Judge.{ifExactly, answerable, replyTests, late, reply, judgeResponse, isAddEvent, judgeEvent, mayAsk, busy, rules, judgeCommand}
 use Rattle.rules.specs.Judge.{commonTests, judgeKind, judgeRead, judgeMessage, yields, judgeGiveUp, judgeReplaced, Call, message, giveUp, replaced, judge}
-use Rattle.rules.proofs.Lists.{split, differ, and-yes, checks-are, first-yes, first-strong}
+use Rattle.rules.proofs.Lists.{split, differ, checks-are, first-yes, first-strong}
+use Rattle.rules.proofs.Waits.{exact-on, open-thread}
 
 -- ---- an outcome, and what was so
 
@@ -66,9 +67,6 @@ Allowed v (Refused r) = Unit {0}
 
 -- ---- the innermost wait
 
-exactly : (a t : ℕ) (p : Place) → asksExactly a t p ≡ true → openOn t p ≡ true
-exactly a t p q = and-yes (openOn t p) (eqb (p .asked) a) q .0
-
 innermost-is : (v : View) (w : Place) (asker asked t : ℕ) → first (openOn t) (v .places) ≡ some w → w .asked ≡ asked → w .asker ≡ asker → t ≤ 7
     → Innermost v asker asked t
 innermost-is v w asker asked t e p q small =
@@ -76,7 +74,7 @@ innermost-is v w asker asked t e p q small =
     record {
       it = w;
       top = e;
-      found = first-strong (asksExactly asked t) (openOn t) (exactly asked t) (v .places) w e x .found;
+      found = first-strong (asksExactly asked t) (openOn t) (exact-on asked t) (v .places) w e x .found;
       its-asked = p;
       its-asker = q;
       thread-small = small;
@@ -152,8 +150,7 @@ yields-is : (v : View) (t : ℕ) (o : Option Place) → first (openOn t) (v .pla
 unfolding yields
 yields-is v t none e small = tt
 yields-is v t (some w) e small =
-    let y = and-yes (isOpen w) (eqb (w .thread) t) (first-yes (openOn t) (v .places) w e) in
-    let k : w .thread ≡ t = eqb-true (w .thread) t (y .1) in
+    let k : w .thread ≡ t = eqb-true (w .thread) t (open-thread t w (first-yes (openOn t) (v .places) w e)) in
     rw k (innermost-is v w (w .asker) (w .asked) t e refl refl small)
 
 give-up-is : (v : View) (room t : ℕ) → Allowed v (judgeGiveUp v room t)

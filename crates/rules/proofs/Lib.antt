@@ -1,2 +1,5 @@
 pub mod Lists
+pub mod Waits
 pub mod Allowed
+pub mod Trees
+pub mod Kept

@@ -96,6 +96,14 @@ module _ {A : Type 0} where
   count-changed f q r s [] = refl
   count-changed f q r s (x ∷ l) = split (r x) (λ e. rw (e, s x)) (λ e. rw e (omega (arith, count-changed f q r s l)))
 
+  pub some-changed : (f : A → A) (q r : A → Bool) → ((x : A) → q (f x) ≡ q x) → (l : List A) → someOf q (changed f r l) ≡ someOf q l
+  some-changed f q r s [] = refl
+  some-changed f q r s (x ∷ l) = split (r x) (λ e. rw (e, s x)) (λ e. rw (e, some-changed f q r s l))
+
+  pub length-changed : (f : A → A) (r : A → Bool) (l : List A) → length (changed f r l) ≡ length l
+  length-changed f r [] = refl
+  length-changed f r (x ∷ l) = split (r x) (λ e. rw e) (λ e. rw (e, length-changed f r l))
+
   -- those that pass and those that do not are all
   pub count-both : (q : A → Bool) (l : List A) → length (keep q l) + length (keep (λ x. not (q x)) l) ≡ length l
   count-both q [] = omega arith

@@ -1,0 +1,199 @@
+-- The law is kept: an accepted table stays proper, and the conduct holds in the fresh view and after every outcome that `judge` can give.
+use Prim.Native.Nat.{ℕ, _+_, _≤_}
+use mathlib.Core.Path.{_≡_, refl, sym, ap, _∙_}
+use mathlib.Core.Bool.{Bool, true, false, not, _||_, _&&_, cond}
+use mathlib.Core.List.{List, [], _∷_}
+use mathlib.Core.Option.{Option, none, some}
+use native.Mathlib.Omega.{arith}
+use lib.Dec.{eqb}
+use lib.ListN.{length}
+use borrow.Author.Tests.{eqb-true}
+use Rattle.lists.specs.Lists.{count, someOf, keep, first, without, changed, All}
+use Rattle.tapa.specs.Address.{categoryOf, handlerOf, multi}
+use Rattle.tapa.specs.Codes.{done, openHandler, closeHandler}
+use Rattle.table.specs.declared.Row.{Row}
+use Rattle.table.specs.Table.{isAt, listed, marked, setOpened, shaped, isMulti, Proper}
+use Rattle.places.specs.declared.Place.{Place}
+use Rattle.places.specs.Places.{waits, onThread, openOn, asksExactly, owesExactly, asks, standsOn, onSlot, notOwedBy, owing}
+use Rattle.rules.specs.View.{View, fresh}
+use Rattle.rules.specs.declared.Outcome.{Outcome}
+use Rattle.rules.specs.declared.Outcome.the-variants.{Passed, Answered, Swallowed, Event, Turned, Given, Reset, Refused}
+use Rattle.rules.specs.Judge.{busy, Call, judge}
+use Rattle.rules.specs.Apply.{place, reopened, rowsAfter, placesAfter, applied}
+use Rattle.rules.specs.Conduct.{Placed, Tree, Chained, Conduct}
+use Rattle.rules.proofs.Lists.{split, or-no, and-yes, count-le, count-none, count-without, count-keep, count-changed, some-changed, length-changed, All-without, All-keep, All-changed, All-map}
+use Rattle.rules.proofs.Waits.{waits-given, waits-swallowed, waits-reset, first-waits, found-waits, tree-waits, waits-tree, chained-waits, waits-chained}
+use Rattle.rules.proofs.Trees.{tree-passed, tree-ended, chained-ended}
+use Rattle.rules.proofs.Allowed.{Allowed, Fit, Innermost, allowed}
+
+-- ---- the rows
+
+-- what holds of the rows, and still with a handler marked open or closed, holds after any outcome
+reopened-by : (P : List Row → Type 0) (rows : List Row) → P rows → ((h : ℕ) (b : Bool) → P (setOpened h b rows))
+    → (o : Option Place) (k : ℕ) → P (reopened o k rows)
+unfolding reopened
+reopened-by P rows p f none k = p
+reopened-by P rows p f (some w) k =
+    split (eqb k done && eqb (w .kind) openHandler) (λ b. rw b (f (handlerOf (w .asked)) true))
+    (λ b. rw b (split (eqb k done && eqb (w .kind) closeHandler) (λ q. rw q (f (handlerOf (w .asked)) false)) (λ q. rw q p)))
+
+pub rows-by : (P : List Row → Type 0) (v : View) → P (v .rows) → ((h : ℕ) (b : Bool) → P (setOpened h b (v .rows))) → (o : Outcome) → P (rowsAfter o v)
+rows-by P v p f (Passed asker asked kind t) = p
+rows-by P v p f (Answered asked asker t k) = reopened-by P (v .rows) p f (first (asksExactly asked t) (v .places)) k
+rows-by P v p f (Swallowed asked t) = p
+rows-by P v p f Event = p
+rows-by P v p f (Turned asker asked t k) = p
+rows-by P v p f (Given asker asked t) = p
+rows-by P v p f (Reset h) = f h false
+rows-by P v p f (Refused r) = p
+
+proper-set : (h : ℕ) (b : Bool) (rows : List Row) → Proper rows → Proper (setOpened h b rows)
+proper-set h b rows p = record {
+  some = rw (length-changed (marked b) (isAt h) rows) (p .some);
+  few = rw (length-changed (marked b) (isAt h) rows) (p .few);
+  shapes = All-changed (λ (r : Row). shaped (r .address) ≡ true) (marked b) (isAt h) (λ r s. s) rows (p .shapes);
+  once = λ a. rw (count-changed (marked b) (isAt a) (isAt h) (λ r. refl) rows) (p .once a);
+  multis = rw (count-changed (marked b) isMulti (isAt h) (λ r. refl) rows) (p .multis);
+}
+
+pub proper-kept : (v : View) (o : Outcome) → Proper (v .rows) → Proper (applied o v .rows)
+proper-kept v o p = rows-by Proper v p (λ h b. proper-set h b (v .rows) p) o
+
+listed-set : (a h : ℕ) (b : Bool) (rows : List Row) → listed a (setOpened h b rows) ≡ listed a rows
+listed-set a h b rows = some-changed (marked b) (isAt a) (isAt h) (λ r. refl) rows
+
+-- a handler is in the table after an outcome as before it
+pub listed-kept : (a : ℕ) (v : View) (o : Outcome) → listed a (applied o v .rows) ≡ listed a (v .rows)
+listed-kept a v o = rows-by (λ (rows : List Row). listed a rows ≡ listed a (v .rows)) v refl (λ h b. listed-set a h b (v .rows)) o
+
+placed-rows : (v : View) (o : Outcome) (l : List Place) → All (Placed (v .rows)) l → All (Placed (applied o v .rows)) l
+placed-rows v o l a =
+    All-map (Placed (v .rows)) (Placed (applied o v .rows)) (λ p q. (listed-kept (handlerOf (p .asked)) v o ∙ q .0, q .1)) l a
+
+-- ---- slots
+
+-- two places on one slot are on each other's
+slot-same : (h t : ℕ) (p q : Place) → onSlot h t p ≡ true → onSlot h t q ≡ true → onSlot (handlerOf (p .asked)) (p .thread) q ≡ true
+slot-same h t p q a b =
+    let x = and-yes (asks h p) (not (multi h) || onThread t p) a in
+    let y = and-yes (asks h q) (not (multi h) || onThread t q) b in
+    let e : handlerOf (p .asked) ≡ h = eqb-true (handlerOf (p .asked)) h (x .0) in
+    rw (e, y .0) (split (multi h)
+    (λ m. rw m (let f : p .thread ≡ t = eqb-true (p .thread) t (rw m at (x .1)) in rw f (rw m at (y .1))))
+    (λ m. rw m))
+
+-- rule e, part by part
+pub record Free (places : List Place) (asker h t : ℕ) : Type 0 where
+  pub not-asker : eqb h (handlerOf asker) ≡ false
+  pub not-standing : someOf (standsOn t h) places ≡ false
+  pub not-taken : someOf (onSlot h t) places ≡ false
+
+pub free-of : (places : List Place) (asker h t : ℕ) → busy places asker h t ≡ false → Free places asker h t
+unfolding busy
+free-of places asker h t e =
+    let a = or-no (eqb h (handlerOf asker)) (someOf (standsOn t h) places || someOf (onSlot h t) places) e in
+    let b = or-no (someOf (standsOn t h) places) (someOf (onSlot h t) places) (a .1) in
+    record { not-asker = a .0; not-standing = b .0; not-taken = b .1 }
+
+once-passed : (p : Place) (l : List Place) → someOf (onSlot (handlerOf (p .asked)) (p .thread)) l ≡ false
+    → ((h t : ℕ) → count (onSlot h t) l ≤ 1) → (h t : ℕ) → count (onSlot h t) (p ∷ l) ≤ 1
+once-passed p l n f h t =
+    split (onSlot h t p)
+    (λ q. rw q (omega (
+      arith,
+      count-none (onSlot (handlerOf (p .asked)) (p .thread)) l n,
+      count-le (onSlot h t) (onSlot (handlerOf (p .asked)) (p .thread)) (λ x r. slot-same h t p x q r) l,
+    )))
+    (λ q. rw q (omega (arith, f h t)))
+
+-- ---- the waits once the innermost has ended
+
+module _ (v : View) (c : Conduct v) (asker asked t : ℕ) (i : Innermost v asker asked t) where
+  top-wait : first (openOn t) (waits (v .places)) ≡ some (i .it)
+  top-wait = first-waits t (v .places) ∙ i .top
+
+  found-wait : first (asksExactly asked t) (waits (v .places)) ≡ some (i .it)
+  found-wait = found-waits asked t (v .places) ∙ i .found
+
+  given-tree : (u : ℕ) → Tree u (changed owing (asksExactly asked t) (v .places))
+  given-tree u =
+      waits-tree u (changed owing (asksExactly asked t) (v .places))
+      (rw (waits-given asked t (v .places))
+      (tree-ended u t asked (waits (v .places)) (i .it) top-wait found-wait (tree-waits t (v .places) (c .trees t)) (tree-waits u (v .places) (c .trees u))))
+
+  given-chain : Chained (changed owing (asksExactly asked t) (v .places))
+  given-chain =
+      waits-chained (changed owing (asksExactly asked t) (v .places))
+      (rw (waits-given asked t (v .places)) (chained-ended t asked (waits (v .places)) (i .it) top-wait found-wait (chained-waits (v .places) (c .chained))))
+
+-- other places, with the same waits: the same trees and the same chains
+same-tree : (t : ℕ) (l m : List Place) → waits m ≡ waits l → Tree t l → Tree t m
+same-tree t l m e g = waits-tree t m (rw e (tree-waits t l g))
+
+same-chain : (l m : List Place) → waits m ≡ waits l → Chained l → Chained m
+same-chain l m e c = waits-chained m (rw e (chained-waits l c))
+
+-- ---- the step
+
+pub conduct-kept : (v : View) (o : Outcome) → Conduct v → Allowed v o → Conduct (applied o v)
+conduct-kept v (Passed asker asked kind t) c f =
+    let p = place asker asked kind t in
+    let e = free-of (v .places) asker (handlerOf asked) t (f .free) in record {
+      once = once-passed p (v .places) (e .not-taken) (c .once);
+      trees = λ u. tree-passed u (v .places) p (f .may) (e .not-standing) (e .not-asker) (c .trees u);
+      chained = (λ _. f .may, c .chained);
+      placed = ((f .asked-listed, f .thread-small), c .placed);
+    }
+conduct-kept v (Answered asked asker t k) c i = record {
+  once = λ h u. omega (arith, c .once h u, count-without (onSlot h u) (asksExactly asked t) (v .places));
+  trees = λ u. tree-ended u t asked (v .places) (i .it) (i .top) (i .found) (c .trees t) (c .trees u);
+  chained = chained-ended t asked (v .places) (i .it) (i .top) (i .found) (c .chained);
+  placed = placed-rows v (Answered asked asker t k) (without (asksExactly asked t) (v .places))
+      (All-without (Placed (v .rows)) (asksExactly asked t) (v .places) (c .placed));
+}
+conduct-kept v (Swallowed asked t) c f = record {
+  once = λ h u. omega (arith, c .once h u, count-without (onSlot h u) (owesExactly asked t) (v .places));
+  trees = λ u. same-tree u (v .places) (without (owesExactly asked t) (v .places)) (waits-swallowed asked t (v .places)) (c .trees u);
+  chained = same-chain (v .places) (without (owesExactly asked t) (v .places)) (waits-swallowed asked t (v .places)) (c .chained);
+  placed = All-without (Placed (v .rows)) (owesExactly asked t) (v .places) (c .placed);
+}
+conduct-kept v Event c f = c
+conduct-kept v (Turned asker asked t k) c f = c
+conduct-kept v (Given asker asked t) c i = record {
+  once = λ h u. omega (arith, c .once h u, count-changed owing (onSlot h u) (asksExactly asked t) (λ x. refl) (v .places));
+  trees = given-tree v c asker asked t i;
+  chained = given-chain v c asker asked t i;
+  placed = All-changed (Placed (v .rows)) owing (asksExactly asked t) (λ x a. a) (v .places) (c .placed);
+}
+conduct-kept v (Reset h) c f = record {
+  once = λ a u. omega (arith, c .once a u, count-keep (onSlot a u) (notOwedBy h) (v .places));
+  trees = λ u. same-tree u (v .places) (keep (notOwedBy h) (v .places)) (waits-reset h (v .places)) (c .trees u);
+  chained = same-chain (v .places) (keep (notOwedBy h) (v .places)) (waits-reset h (v .places)) (c .chained);
+  placed = placed-rows v (Reset h) (keep (notOwedBy h) (v .places)) (All-keep (Placed (v .rows)) (notOwedBy h) (v .places) (c .placed));
+}
+conduct-kept v (Refused r) c f = c
+
+-- ---- the start
+
+no-tree : (t : ℕ) → Tree t []
+unfolding categoryOf
+no-tree t = record { root = 0x0100; driver = refl; grown = tt }
+
+pub conduct-fresh : (rows : List Row) → Conduct (fresh rows)
+conduct-fresh rows = record { once = λ h t. omega arith; trees = no-tree; chained = tt; placed = tt }
+
+-- ---- any call
+
+-- the law of a view: its table is an accepted one, and its places keep the conduct
+pub record Lawful (v : View) : Type 0 where
+  pub table : Proper (v .rows)
+  pub conduct : Conduct v
+
+pub lawful-fresh : (rows : List Row) → Proper rows → Lawful (fresh rows)
+lawful-fresh rows p = record { table = p; conduct = conduct-fresh rows }
+
+pub lawful-call : (v : View) (room : ℕ) (c : Call) → Lawful v → Lawful (applied (judge v room c) v)
+lawful-call v room c l = record {
+  table = proper-kept v (judge v room c) (l .table);
+  conduct = conduct-kept v (judge v room c) (l .conduct) (allowed v room c);
+}
