@@ -3,3 +3,5 @@ pub mod Waits
 pub mod Allowed
 pub mod Trees
 pub mod Kept
+pub mod Bound
+pub mod Words

@@ -277,6 +277,22 @@ module _ {A : Type 0} where
       split (r x) (λ p. rw (p, some-keep q r f l))
       (λ p. let n : q x ≡ false = split (q x) (λ b. clash (r x) (f x b) p) (λ b. b) in rw (p, n, some-keep q r f l))
 
+  pub some-kept : (q r : A → Bool) (l : List A) → someOf q (keep r l) ≡ someOf (λ x. r x && q x) l
+  some-kept q r [] = refl
+  some-kept q r (x ∷ l) = split (r x) (λ p. rw (p, some-kept q r l)) (λ p. rw (p, some-kept q r l))
+
+  -- some element passes among those that are kept, or among the others
+  pub some-parts : (q r : A → Bool) (l : List A) → someOf q l ≡ (someOf q (keep r l) || someOf q (keep (λ x. not (r x)) l))
+  some-parts q r [] = refl
+  some-parts q r (x ∷ l) =
+      split (q x) (λ p. split (r x) (λ b. rw (b, p)) (λ b. rw (b, p, or-true)))
+      (λ p. split (r x) (λ b. rw (b, p) (some-parts q r l)) (λ b. rw (b, p) (some-parts q r l)))
+
+  pub keep-nothing : (q : A → Bool) (l : List A) → keep q l ≡ [] → someOf q l ≡ false
+  keep-nothing q [] e = refl
+  keep-nothing q (x ∷ l) e =
+      split (q x) (λ p. let f : x ∷ keep q l ≡ [] = rw p at e in differ (cc)) (λ p. rw p (keep-nothing q l (rw p at e)))
+
   pub none-without : (q r : A → Bool) (l : List A) → someOf q l ≡ false → someOf q (without r l) ≡ false
   none-without q r [] e = refl
   none-without q r (x ∷ l) e =

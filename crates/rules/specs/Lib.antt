@@ -2,3 +2,4 @@ pub mod View
 pub mod Judge
 pub mod Apply
 pub mod Conduct
+pub mod Words
