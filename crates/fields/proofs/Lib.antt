@@ -1,0 +1,3 @@
+pub mod Unfold
+pub mod Left
+pub mod Contents

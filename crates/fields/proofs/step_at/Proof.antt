@@ -1,0 +1,43 @@
+-- `fields::step_at` meets its contract: each arm is what `read_at` found. Assumes nothing.
+use mathlib.Core.Path.{sym, _∙_}
+use Rattle.fields.proofs.Unfold.{inside}
+use borrow.Author.Needs.{needs}
+use Rattle.fields.proofs.step_at.Statement.{statement}
+use Rattle.fields.proofs.step_at.Tie as tie
+
+read-at-requires : tie.Need-read-at-requires
+read-at-requires c κs = search needs
+
+enum-told : tie.Need-enum-told
+enum-told c = search needs
+
+enum-told-2 : tie.Need-enum-told-2
+enum-told-2 c = search needs
+
+enum-known-tag : tie.Need-enum-known-tag
+enum-known-tag c = search needs
+
+step-in-requires : tie.Need-step-in-requires
+step-in-requires c κs = (inside (c .before .before .before .before .before .args .s .now) (c .before .before .before .before .before .args .at) _ _ _ (sym (c .before .before .before .read-at .ensures) ∙ c .before .tag .given .1)) .1
+
+returns : tie.Need-returns
+returns c = rw (sym (c .before .before .read-at .ensures) ∙ c .enum-told .given .1)
+
+returns-2 : tie.Need-returns-2
+returns-2 c = rw (sym (c .before .before .read-at .ensures) ∙ c .enum-told2 .given .1)
+
+returns-3 : tie.Need-returns-3
+returns-3 c = rw (sym (c .before .before .before .before .read-at .ensures) ∙ c .before .before .tag .given .1) (c .step-in .ensures)
+
+pub step-at-spec : {M : Type 1} → statement M
+step-at-spec =
+    tie.close
+    (tie.spec
+    read-at-requires
+    enum-told
+    enum-told-2
+    enum-known-tag
+    step-in-requires
+    returns
+    returns-2
+    returns-3)

@@ -1,0 +1,75 @@
+-- `places::stands_in` meets its contract: at each turn the places below `i` give what all give. Assumes nothing.
+use Prim.Native.Nat.{_≤_}
+use mathlib.Core.Path.{_≡_, sym, ap, _∙_}
+use native.Mathlib.Omega.{arith}
+use Rattle.lists.specs.Lists.{someOf}
+use Rattle.places.specs.Places.{placesOf, standsIn}
+use Rattle.places.proofs.Walks.{some-here, some-past, some-end}
+use borrow.Author.Needs.{needs}
+use Rattle.places.proofs.stands_in.Statement.{statement}
+use Rattle.places.proofs.stands_in.Tie as tie
+
+abbrev Inv-loop : tie.InvT-loop
+Inv-loop list n handler i₀ i = (i ≤ n) × (someOf (standsIn handler) (placesOf list i) ≡ someOf (standsIn handler) (placesOf list n))
+
+abbrev μ-loop : tie.MeasureT-loop
+μ-loop list n handler i₀ i = i
+
+loop-holds : tie.Need-loop-holds Inv-loop μ-loop
+loop-holds c = search needs
+
+sub-i : tie.Need-sub-i Inv-loop μ-loop
+sub-i c = search needs
+
+mul-place-of : tie.Need-mul-place-of Inv-loop μ-loop
+mul-place-of c = search needs
+
+element-copy-out-place-of : tie.Need-element-copy-out-place-of Inv-loop μ-loop
+element-copy-out-place-of c = search needs
+
+place-of-requires : tie.Need-place-of-requires Inv-loop μ-loop
+place-of-requires c κs = search needs
+
+has-open-requires : tie.Need-has-open-requires Inv-loop μ-loop
+has-open-requires c κs = search needs
+
+returns : tie.Need-returns Inv-loop μ-loop
+returns c =
+    let s = c .before .before .before .before .before in
+    let p = standsIn (s .before .args .handler) in
+    some-here _ (s .loop .i) (search needs) p (s .loop .inv .1)
+    (ap p (sym (c .before .before .place-of .ensures)) ∙ sym (c .before .has-open .ensures) ∙ c .if1 .taken)
+
+loop-less : tie.Need-loop-less Inv-loop μ-loop
+loop-less c = search needs
+
+loop-again : tie.Need-loop-again Inv-loop μ-loop
+loop-again c =
+    let s = c .before .before .before .before .before in
+    let p = standsIn (s .before .args .handler) in (
+      search needs,
+      some-past _ (s .loop .i) (search needs) p (s .loop .inv .1)
+          (ap p (sym (c .before .before .place-of .ensures)) ∙ sym (c .before .has-open .ensures) ∙ c .if1 .left),
+    )
+
+returns-2 : tie.Need-returns-2 Inv-loop μ-loop
+returns-2 c =
+    let s = c .before in
+    some-end _ (s .loop .i) (standsIn (s .before .args .handler)) (omega arith) (s .loop .inv .1)
+
+pub stands-in-spec : {M : Type 1} → statement M
+stands-in-spec =
+    tie.close
+    (tie.spec
+    Inv-loop
+    μ-loop
+    loop-holds
+    sub-i
+    mul-place-of
+    element-copy-out-place-of
+    place-of-requires
+    has-open-requires
+    returns
+    loop-less
+    loop-again
+    returns-2)
