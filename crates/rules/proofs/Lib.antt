@@ -5,3 +5,5 @@ pub mod Trees
 pub mod Kept
 pub mod Bound
 pub mod Words
+pub mod Steps
+pub mod Sums
