@@ -6,4 +6,5 @@ pub mod Kept
 pub mod Bound
 pub mod Words
 pub mod Steps
+pub mod After
 pub mod Sums

@@ -75,6 +75,15 @@ module _ {A : Type 0} where
       let ih = count-le q r f l in
       split (q x) (λ e. rw (e, f x e) (omega arith)) (λ e. rw e (omega arith))
 
+  -- two tests that never pass together
+  pub count-apart : (q r s : A → Bool) → ((x : A) → q x ≡ true → s x ≡ true) → ((x : A) → r x ≡ true → (q x ≡ false) × (s x ≡ true)) → (l : List A)
+      → count q l + count r l ≤ count s l
+  count-apart q r s f g [] = omega arith
+  count-apart q r s f g (x ∷ l) =
+      let ih = count-apart q r s f g l in
+      split (r x) (λ e. rw (e, g x e .0, g x e .1) (omega arith))
+      (λ e. rw e (split (q x) (λ b. rw (b, f x b) (omega arith)) (λ b. rw b (omega arith))))
+
   pub count-none : (q : A → Bool) (l : List A) → someOf q l ≡ false → count q l ≡ 0
   count-none q [] e = refl
   count-none q (x ∷ l) e = let p = or-no (q x) (someOf q l) e in rw (p .0) (omega (arith, count-none q l (p .1)))
@@ -215,6 +224,13 @@ module _ {A : Type 0} where
   first-yes q [] x e = differ (cc)
   first-yes q (y ∷ l) x e =
       split (q y) (λ p. let k : y ≡ x = (let f : some y ≡ some x = rw p at e in cc) in rw k at p) (λ p. first-yes q l x (rw p at e))
+
+  -- what is found first makes any test pass that it meets
+  pub first-meets : (q r : A → Bool) (l : List A) (x : A) → first r l ≡ some x → q x ≡ true → someOf q l ≡ true
+  first-meets q r [] x e p = differ (cc)
+  first-meets q r (y ∷ l) x e p =
+      split (r y) (λ b. let k : y ≡ x = (let f : some y ≡ some x = rw b at e in cc) in let m : q y ≡ true = rw k p in rw m)
+      (λ b. rw (first-meets q r l x (rw b at e) p, or-true))
 
   pub first-some : (q : A → Bool) (l : List A) (x : A) → first q l ≡ some x → someOf q l ≡ true
   first-some q [] x e = differ (cc)

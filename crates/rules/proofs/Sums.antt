@@ -1,4 +1,4 @@
--- The page's session, and the sums at the desk C5 and C11, computed by the definitions.
+-- The page's session, a wrong turning, and the sums at the desk C5 and C11, computed by the definitions.
 use Prim.Native.Nat.{ℕ, _≤_, _<_}
 use mathlib.Core.Path.{_≡_, refl}
 use mathlib.Core.Bool.{Bool, true, false}
@@ -8,8 +8,7 @@ use lib.ListN.{length, take}
 use Rattle.tapa.specs.Address.{categoryOf, handlerOf, multi}
 use Rattle.tapa.specs.Types.{own, common}
 use Rattle.tapa.specs.Codes.{mustBeOpened}
-use Rattle.tapa.specs.declared.Refusal.the-variants.{ThreadAbove7}
-use Rattle.tapa.specs.Refusals.{numberOf}
+use Rattle.tapa.specs.declared.Refusal.the-variants.{ThreadAbove7, StrayResponse}
 use Rattle.message.specs.declared.Head.{Head}
 use Rattle.message.specs.declared.Reading.the-variants.{Message}
 use Rattle.message.specs.Message.{readOf, partOf, codeOf, messageOf, responseOf}
@@ -80,6 +79,22 @@ session = record {
   waiting = refl;
   owing = refl;
 }
+
+-- ---- 'Knowing a reply by thread alone, or by category: '0202' must not answer for '0282'.'
+
+abbrev pub enciphered : View
+enciphered = record { rows = rows; places = place 0x0100 0x0282 0x45 3 ∷ [] }
+
+abbrev pub reply-from : ℕ → Call
+reply-from low = message (0x01 ∷ 0x00 ∷ 0x02 ∷ low ∷ 0xFF ∷ 0x03 ∷ 0x00 ∷ 0x02 ∷ 0x00 ∷ 0x00 ∷ [])
+
+pub not-for-another : judge enciphered 10 (reply-from 0x02) ≡ Refused StrayResponse
+unfolding readOf partOf codeOf categoryOf handlerOf multi late reply judgeResponse judgeKind judgeRead judgeMessage
+not-for-another = refl
+
+pub for-itself : judge enciphered 10 (reply-from 0x82) ≡ Answered 0x0282 0x0100 3 0
+unfolding readOf partOf codeOf categoryOf handlerOf multi late reply judgeResponse judgeKind judgeRead judgeMessage
+for-itself = refl
 
 -- ---- 'C5 '0202' closed, `0202 0100 45 03 0000`: turned, `0100 0202 FF 03 0002 FFF7`.'
 
