@@ -7,6 +7,7 @@ use mathlib.Core.Option.{Option, none, some}
 use mathlib.Core.Path.{_≡_}
 use lib.Dec.{eqb}
 use lib.ListN.{length, drop, getD}
+use denote.Ref.{RefT}
 use Rattle.lists.specs.declared.Found.{Found}
 use Rattle.lists.specs.declared.Found.the-variants.{At, Nothing}
 
@@ -85,3 +86,9 @@ onto written buffer = written ++ drop (length written) buffer
 -- every element is a byte, as in each lent slice
 abbrev pub Bytes : List ℕ → Type 0
 Bytes s = (i : ℕ) → getD s i 0 < 256
+
+-- ---- parts of a lent slice
+
+-- a part that starts at a place of a lent slice: it stands in the same memory, and is no copy
+abbrev pub LiesAt : ℕ → RefT (List ℕ) → RefT (List ℕ) → Type 0
+LiesAt at slice part = part .ptr ≡ (slice .ptr .0, at + slice .ptr .1)

@@ -16,9 +16,10 @@ use Rattle.message.specs.declared.Head.{Head}
 use Rattle.message.specs.declared.Reading.{Reading}
 use Rattle.message.specs.declared.Reading.the-variants.{Message, Refused}
 use Rattle.message.specs.declared.Coded.the-variants.{Code}
+use Rattle.message.specs.declared.Writing.{Writing}
 use Rattle.message.specs.declared.Writing.the-variants.{Written, Refused as WriteRefused}
 use Rattle.message.specs.Message.{headOf, readOf, partOf, codeOf, headBytes, messageOf, writingOf, Wrote, responseOf}
-use Rattle.message.proofs.Laws.{reads-whole, Whole, whole, part-of-message}
+use Rattle.message.proofs.Laws.{reads-whole, Whole, whole, part-of-message, writes}
 
 -- a number that two bytes hold is given back by them
 both : (n : ℕ) → n / 256 * 256 + n % 256 ≡ n
@@ -124,3 +125,14 @@ writes-back s h b e =
     let part : partOf s ≡ drop 8 s = part-of-message s h e in
     rw (part, w .head, size, high (getD s 0 0) (getD s 1 0) (b 1), low (getD s 0 0) (getD s 1 0) (b 1), high (getD s 2 0) (getD s 3 0) (b 3), low (getD s 2 0) (getD s 3 0) (b 3), high (getD s 6 0) (getD s 7 0) (b 7), low (getD s 6 0) (getD s 7 0) (b 7))
     (sym (eight s (omega (arith, w .size))))
+
+-- so of the writer: given what was read, and a buffer that holds the message, it answers the message's length and leaves its bytes in front
+pub writes-read : (s : List ℕ) (h : Head) → Bytes s → readOf s ≡ Message h → (before after : List ℕ) (w : Writing) → length s ≤ length before
+    → Wrote (h .destination) (h .source) (h .kind) (h .thread) (partOf s) before after w → (w ≡ Written (length s)) × (take (length s) after ≡ s)
+writes-read s h b e before after w room x =
+    let k = whole s h e in
+    let n : length (partOf s) ≡ length s - 8 = ap length (part-of-message s h e) ∙ length-drop 8 s in
+    let answer : w ≡ Written (length s) =
+    x .answer ∙ writes (partOf s) before (omega (arith, k .size, k .few)) (omega (arith, k .size)) ∙ ap Written (omega (arith, k .size)) in
+    let back = reads-back (h .destination) (h .source) (h .kind) (h .thread) (partOf s) before after (length s) (rw answer at x) in
+    (answer, back .bytes ∙ writes-back s h b e)

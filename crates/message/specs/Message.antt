@@ -5,7 +5,8 @@ use mathlib.Core.Bool.{Bool, true, false, not, cond}
 use mathlib.Core.List.{List, [], _∷_, _++_}
 use lib.Dec.{eqb, ltb}
 use lib.ListN.{length, drop, getD}
-use Rattle.lists.specs.Lists.{checks, onto}
+use denote.Ref.{RefT, now}
+use Rattle.lists.specs.Lists.{checks, onto, LiesAt}
 use Rattle.tapa.specs.Numbers.{wordAt, twoBytes}
 use Rattle.tapa.specs.Codes.{response}
 use Rattle.tapa.specs.declared.Refusal.the-variants.{TooShort, TooLong, SizeDisagrees, BufferTooSmall}
@@ -47,6 +48,15 @@ reads (Refused r) = false
 -- 'The data starts at byte 8 and is handed on from there'; what is no message has none
 unfoldable pub partOf : List ℕ → List ℕ
 partOf s = cond (reads (readOf s)) (drop 8 s) []
+
+-- where it starts; the empty part of what is no message is its start
+abbrev pub partStart : List ℕ → ℕ
+partStart s = cond (reads (readOf s)) 8 0
+
+-- the data part handed out: its bytes, and that it stands in the message itself
+pub record DataPart (message part : RefT (List ℕ)) : Type 0 where
+  pub bytes : now part ≡ partOf (now message)
+  pub place : LiesAt (partStart (now message)) message part
 
 -- 'its last two data bytes are the response code'
 unfoldable pub codeOf : List ℕ → Coded

@@ -11,7 +11,7 @@ ghost use mathlib.Core.Path.{_≡_};
 ghost use Prim.Native.Nat.{_≤_};
 ghost use lib.ListN.{length};
 ghost use Rattle.lists.specs.Lists.{onto};
-ghost use Rattle.message.specs.Message.{readOf, partOf, codeOf, headBytes, Wrote, responded};
+ghost use Rattle.message.specs.Message.{readOf, DataPart, codeOf, headBytes, Wrote, responded};
 
 // What stands before the data.
 pub struct Head {
@@ -63,7 +63,7 @@ pub fn read(message: &[u8]) -> Reading
 
 // The data of a message, as a part of it; the empty part of bytes that are no message.
 pub fn data_part(message: &[u8]) -> &[u8]
-    ensures { λ r. ⌜ now r ≡ partOf (now (message .entry)) ⌝ }
+    ensures { λ r. ⌜ DataPart (message .entry) r ⌝ }
 {
     match read(message) {
         Reading::Message(_) => &message[8..],

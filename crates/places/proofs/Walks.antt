@@ -139,7 +139,11 @@ module _ {A : Type 0} where
         go false er true eq ih k = clash (sym (wider y eq) ∙ er)
         go false er false eq ih k = ih k
 
--- ---- a walk down from the newest place: what the places below i give is what all places give
+-- ---- a walk down from the newest place
+
+-- the invariant: what is asked has the same answer of the i oldest places as of all n
+abbrev pub Below : {R : Type 0} → (List Place → R) → List ℕ → ℕ → ℕ → Type 0
+Below g l n i = (i ≤ n) × (g (placesOf l i) ≡ g (placesOf l n))
 
 module _ (l : List ℕ) (i : ℕ) (pos : 0 < i) (p : Place → Bool) where
   back-one : placesOf l i ≡ placeAt l (i - 1) ∷ placesOf l (i - 1)

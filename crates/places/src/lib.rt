@@ -11,7 +11,6 @@
 // and the places with the law leave one array possible: proofs/Once.antt.
 use lists::Found;
 ghost use mathlib.Core.Path.{_≡_};
-ghost use lib.ListN.{getD};
 ghost use Rattle.lists.specs.Lists.{find, someOf, keep, withoutAt, changedAt};
 ghost use Rattle.places.specs.Places.{unpack, Packed, placesOf, placeAt, Lawful, Becomes, pushed, owing};
 ghost use Rattle.places.specs.Places.{openOn, owesExactly, stands, standsOn, standsIn, onSlot, owedBy, notOwedBy};
@@ -99,10 +98,10 @@ fn on_slot(place: Place, handler: u16, thread: u8) -> bool
 fn owed_by(place: Place, handler: u16) -> bool
     ensures { λ r. ⌜ r ≡ owedBy handler place ⌝ }
 {
-    if !place.owed {
-        return false;
+    if tapa::handler(place.asked) == handler {
+        return place.owed;
     }
-    tapa::handler(place.asked) == handler
+    false
 }
 
 fn has_on(place: Place, thread: u8, handler: u16) -> bool
@@ -123,17 +122,17 @@ fn has_open(place: Place, handler: u16) -> bool
     has(place, handler)
 }
 
-// ---- walks, from the newest place to the oldest
+// ---- what the list is asked; a walk goes from the newest place to the oldest
 
 // The place with a number; past the count it is one of zeros.
 pub fn place_at(list: &[u64; 48], n: usize, at: usize) -> Place
     requires { ⌜ Lawful (now list) n ⌝ }
     ensures { λ r. ⌜ r ≡ placeAt (now (list .entry)) at ⌝ }
 {
-    if n <= at {
-        return place_of(0);
+    if at < n {
+        return place_of(list[at]);
     }
-    place_of(list[at])
+    place_of(0)
 }
 
 // The innermost wait of a thread.
@@ -263,15 +262,15 @@ pub fn drop_owed(list: &mut [u64; 48], n: usize, handler: u16) -> usize
     ensures { λ r. ⌜ Becomes (now (list .exit)) r (keep (notOwedBy handler) (placesOf (now (list .entry)) n)) ⌝ }
 {
     let mut kept = 0;
-    let mut i = 0;
-    while i < n {
-        let x = list[i];
-        list[i] = 0;
+    let mut seen = 0;
+    while seen < n {
+        let x = list[seen];
+        list[seen] = 0;
         if !owed_by(place_of(x), handler) {
             list[kept] = x;
             kept += 1;
         }
-        i += 1;
+        seen += 1;
     }
     kept
 }

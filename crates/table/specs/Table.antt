@@ -4,7 +4,7 @@ use mathlib.Core.Path.{_≡_}
 use mathlib.Core.Bool.{Bool, true, false, not, _&&_, _||_, cond}
 use mathlib.Core.List.{List, [], _∷_}
 use lib.Dec.{eqb, leb, ltb}
-use lib.ListN.{length, getD, replicate, set}
+use lib.ListN.{length, getD, replicate, set, take}
 use Rattle.lists.specs.Lists.{checks, count, someOf, changed, All}
 use Rattle.tapa.specs.Address.{categoryOf, subAddressOf, multi}
 use Rattle.tapa.specs.Codes.{eventHandler}
@@ -128,6 +128,10 @@ judgeRows t = checks ((t .more, Refused RowCountOrShape) ∷ []) (judgeTable (he
 
 -- ---- reading lent rows
 
+-- what stands for a row past the end
+abbrev pub noRow : Row
+noRow = record { address = 0; opened = false }
+
 -- every row of a list, in order
 abbrev pub withRows : Rows → List Row → Rows
 withRows t [] = t
@@ -135,6 +139,21 @@ withRows t (r ∷ rows) = withRows (withRow t r) rows
 
 abbrev pub rowsRead : List Row → Rows
 rowsRead rows = withRows noRows rows
+
+-- the same said at once: a column of the first k rows, filled up
+abbrev pub column : {A : Type 0} → (Row → A) → A → ℕ → List Row → List A
+column f d zero rows = []
+column f d (suc k) [] = d ∷ column f d k []
+column f d (suc k) (r ∷ rows) = f r ∷ column f d k rows
+
+-- the first sixteen rows, how many they are, and whether there are more
+abbrev pub firstRows : List Row → Rows
+firstRows rows = record {
+  addresses = column (λ (r : Row). r .address) 0 16 rows;
+  opens = column (λ (r : Row). r .opened) false 16 rows;
+  count = length (take 16 rows);
+  more = ltb 16 (length rows);
+}
 
 -- ---- set-up
 

@@ -2,4 +2,5 @@ pub mod Address
 pub mod Codes
 pub mod Numbers
 pub mod Refusals
+pub mod Said
 pub mod Types

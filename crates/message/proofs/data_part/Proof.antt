@@ -33,11 +33,16 @@ part-result-end-2 : tie.Need-part-result-end-2
 part-result-end-2 c = search needs
 
 returns : tie.Need-returns
-returns c = let s = c .before .before .before .before .before .args .message .now in
-    all-left s ∙ sym (part-of-message s _ (sym (c .before .before .before .read .ensures) ∙ c .before .enum-told .given .1))
+returns c =
+    let s = c .before .before .before .before .before .args .message .now in
+    let e = sym (c .before .before .before .read .ensures) ∙ c .before .enum-told .given .1 in
+    record { bytes = all-left s ∙ sym (part-of-message s _ e); place = rw e }
 
 returns-2 : tie.Need-returns-2
-returns-2 c = sym (part-of-none (c .before .before .before .before .before .args .message .now) _ (sym (c .before .before .before .read .ensures) ∙ c .before .enum-told2 .given .1))
+returns-2 c =
+    let s = c .before .before .before .before .before .args .message .now in
+    let e = sym (c .before .before .before .read .ensures) ∙ c .before .enum-told2 .given .1 in
+    record { bytes = sym (part-of-none s _ e); place = rw e }
 
 pub data-part-spec : {M : Type 1} → statement M
 data-part-spec =

@@ -1,4 +1,4 @@
--- `places::drop_owed` meets its contract: at each turn the places that stay of the first `i` are the first `kept` (`Filtered`). Assumes nothing.
+-- `places::drop_owed` meets its contract: at each turn the places that stay of the first `seen` are the first `kept` (`Filtered`). Assumes nothing.
 use Prim.Native.Nat.{_≤_, _-_}
 use mathlib.Core.Path.{sym, ap, _∙_}
 use mathlib.Core.Bool.{not}
@@ -11,10 +11,10 @@ use Rattle.places.proofs.drop_owed.Statement.{statement}
 use Rattle.places.proofs.drop_owed.Tie as tie
 
 abbrev Inv-loop : tie.InvT-loop
-Inv-loop list₀ n handler kept₀ i₀ list kept i = (i ≤ n) × Filtered (notOwedBy handler) list₀ list kept i
+Inv-loop list₀ n handler kept₀ seen₀ list kept seen = (seen ≤ n) × Filtered (notOwedBy handler) list₀ list kept seen
 
 abbrev μ-loop : tie.MeasureT-loop
-μ-loop list₀ n handler kept₀ i₀ list kept i = n - i
+μ-loop list₀ n handler kept₀ seen₀ list kept seen = n - seen
 
 loop-holds : tie.Need-loop-holds Inv-loop μ-loop
 loop-holds c = (search needs, filter-starts _ _ _ (c .pre))
@@ -46,8 +46,8 @@ element-write-list-2 c = search needs
 add-kept : tie.Need-add-kept Inv-loop μ-loop
 add-kept c = search needs
 
-add-i : tie.Need-add-i Inv-loop μ-loop
-add-i c = search needs
+add-seen : tie.Need-add-seen Inv-loop μ-loop
+add-seen c = search needs
 
 loop-less : tie.Need-loop-less Inv-loop μ-loop
 loop-less c = search needs
@@ -56,18 +56,20 @@ loop-again : tie.Need-loop-again Inv-loop μ-loop
 loop-again c =
     let s = c .before .before .before .before .before in
     let q = notOwedBy (s .before .args .handler) in
-    let told = ap q (sym (c .before .before .place-of .ensures)) ∙ ap not (sym (c .before .owed-by .ensures)) in (
+    let told = ap q (sym (c .before .before .place-of .ensures)) ∙ ap not (sym (c .before .owed-by .ensures)) in
+    let m = s .loop .list in
+    let f = s .loop .inv .1 in (
       search needs,
       ⊎-elim
-          (λ a. rw (a .1, a .2) (filter-keeps q _ (s .loop .list) (s .loop .kept) (s .loop .i) (search needs) (s .loop .inv .1) (told ∙ a .0 .taken)))
-          (λ a. rw (a .1, a .2) (filter-drops q _ (s .loop .list) (s .loop .kept) (s .loop .i) (search needs) (s .loop .inv .1) (told ∙ a .0 .left)))
+          (λ a. rw (a .1, a .2) (filter-keeps q _ m (s .loop .kept) (s .loop .seen) (search needs) f (told ∙ a .0 .taken)))
+          (λ a. rw (a .1, a .2) (filter-drops q _ m (s .loop .kept) (s .loop .seen) (search needs) f (told ∙ a .0 .left)))
           (c .if1 .came),
     )
 
 returns : tie.Need-returns Inv-loop μ-loop
 returns c =
     let s = c .before in
-    filter-ends _ _ _ _ _ (s .loop .i) (s .before .pre) (omega arith) (s .loop .inv .1)
+    filter-ends _ _ _ _ _ (s .loop .seen) (s .before .pre) (omega arith) (s .loop .inv .1)
 
 pub drop-owed-spec : {M : Type 1} → statement M
 drop-owed-spec =
@@ -85,7 +87,7 @@ drop-owed-spec =
     mul-list-2
     element-write-list-2
     add-kept
-    add-i
+    add-seen
     loop-less
     loop-again
     returns)

@@ -1,16 +1,15 @@
 -- `places::find_owed` meets its contract: at each turn the places below `i` give what all give. Assumes nothing.
-use Prim.Native.Nat.{_≤_}
-use mathlib.Core.Path.{_≡_, sym, ap, _∙_}
+use mathlib.Core.Path.{sym, ap, _∙_}
 use native.Mathlib.Omega.{arith}
 use Rattle.lists.specs.Lists.{find}
-use Rattle.places.specs.Places.{placesOf, owesExactly}
-use Rattle.places.proofs.Walks.{find-here, find-past, find-end}
+use Rattle.places.specs.Places.{owesExactly}
+use Rattle.places.proofs.Walks.{Below, find-here, find-past, find-end}
 use borrow.Author.Needs.{needs}
 use Rattle.places.proofs.find_owed.Statement.{statement}
 use Rattle.places.proofs.find_owed.Tie as tie
 
 abbrev Inv-loop : tie.InvT-loop
-Inv-loop list n asked thread i₀ i = (i ≤ n) × (find (owesExactly asked thread) (placesOf list i) ≡ find (owesExactly asked thread) (placesOf list n))
+Inv-loop list n asked thread i₀ i = Below (find (owesExactly asked thread)) list n i
 
 abbrev μ-loop : tie.MeasureT-loop
 μ-loop list n asked thread i₀ i = i

@@ -15,10 +15,20 @@ is-multi-requires : tie.Need-is-multi-requires
 is-multi-requires c κs = search needs
 
 returns-2 : tie.Need-returns-2
-returns-2 c = rw (eq-eqb _ _ (sym (c .before .before .before .before .handler .ensures) ∙ c .before .before .before .if1 .left), sym (c .before .before .is-multi .ensures) ∙ c .before .if2 .taken)
+returns-2 c =
+    let s = c .before .before .before in
+    rw (
+      eq-eqb _ _ (sym (s .before .handler .ensures) ∙ s .if1 .left),
+      sym (c .before .before .is-multi .ensures) ∙ c .before .if2 .taken,
+    )
 
 returns-3 : tie.Need-returns-3
-returns-3 c = rw (eq-eqb _ _ (sym (c .before .before .before .handler .ensures) ∙ c .before .before .if1 .left), sym (c .before .is-multi .ensures) ∙ c .if2 .left)
+returns-3 c =
+    let s = c .before .before in
+    rw (
+      eq-eqb _ _ (sym (s .before .handler .ensures) ∙ s .if1 .left),
+      sym (c .before .is-multi .ensures) ∙ c .if2 .left,
+    )
 
 pub on-slot-spec : {M : Type 1} → statement M
 on-slot-spec = tie.close (tie.spec handler-requires returns is-multi-requires returns-2 returns-3)

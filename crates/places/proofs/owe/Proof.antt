@@ -23,10 +23,10 @@ element-write-list : tie.Need-element-write-list
 element-write-list c = search needs
 
 returns-2 : tie.Need-returns-2
-returns-2 c = owed-now _ _ _ (c .before .before .before .pre) (c .before .before .if1 .left) (c .if2 .taken)
+returns-2 c = owed-now _ _ _ (c .before .before .before .pre) (search needs) (search needs)
 
 returns-3 : tie.Need-returns-3
-returns-3 c = owed-before _ _ _ (c .before .before .before .pre) (c .before .before .if1 .left) (c .if2 .left)
+returns-3 c = owed-before _ _ _ (c .before .before .before .pre) (search needs) (search needs)
 
 pub owe-spec : {M : Type 1} → statement M
 owe-spec =

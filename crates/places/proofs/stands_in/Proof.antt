@@ -1,16 +1,15 @@
 -- `places::stands_in` meets its contract: at each turn the places below `i` give what all give. Assumes nothing.
-use Prim.Native.Nat.{_≤_}
-use mathlib.Core.Path.{_≡_, sym, ap, _∙_}
+use mathlib.Core.Path.{sym, ap, _∙_}
 use native.Mathlib.Omega.{arith}
 use Rattle.lists.specs.Lists.{someOf}
-use Rattle.places.specs.Places.{placesOf, standsIn}
-use Rattle.places.proofs.Walks.{some-here, some-past, some-end}
+use Rattle.places.specs.Places.{standsIn}
+use Rattle.places.proofs.Walks.{Below, some-here, some-past, some-end}
 use borrow.Author.Needs.{needs}
 use Rattle.places.proofs.stands_in.Statement.{statement}
 use Rattle.places.proofs.stands_in.Tie as tie
 
 abbrev Inv-loop : tie.InvT-loop
-Inv-loop list n handler i₀ i = (i ≤ n) × (someOf (standsIn handler) (placesOf list i) ≡ someOf (standsIn handler) (placesOf list n))
+Inv-loop list n handler i₀ i = Below (someOf (standsIn handler)) list n i
 
 abbrev μ-loop : tie.MeasureT-loop
 μ-loop list n handler i₀ i = i

@@ -1,0 +1,8 @@
+pub mod Counts
+pub mod Desk
+pub mod Judged
+pub mod Marks
+pub mod Once
+pub mod Part
+pub mod Read
+pub mod Walks

@@ -1,0 +1,206 @@
+-- Rows that are read one by one: what is held then, and that the table is judged as the list of all lent rows.
+use Prim.Native.Nat.{ℕ, zero, suc, _+_, _≤_, _<_}
+use mathlib.Core.Path.{_≡_, refl, sym, ap, _∙_}
+use mathlib.Core.Bool.{Bool, true, false, cond}
+use mathlib.Core.List.{List, [], _∷_, _++_, reverseAux, reverse, append-nil}
+use native.Mathlib.Nat.{not-suc-le-zero, le-of-suc-le-suc}
+use native.Mathlib.Numerals.{add-one}
+use native.Mathlib.Omega.{arith}
+use lib.Dec.{ltb}
+use lib.ListN.{length, getD, take, set, replicate, length-append, length-set}
+use lib.Seq.{append-snoc, getD-set-same, getD-set-other, take-all, length-take-le}
+use borrow.Author.Tests.{ltb-true, ltb-false, lt-ltb, le-ltb}
+use Rattle.table.specs.declared.Row.{Row}
+use Rattle.table.specs.declared.Rows.{Rows}
+use Rattle.table.specs.declared.Checked.{Checked}
+use Rattle.table.specs.declared.Checked.the-variants.{Accepted, Refused}
+use Rattle.table.specs.Table.{rowsOf, Columns, heldRows, Held, noRows, withRow, withRows, rowsRead, column, firstRows, judgeTable, judgeRows, keptBy, setUpWith, setUpOf}
+use Rattle.table.proofs.Judged.{judge-many, judge-reverse}
+
+-- ---- one row more
+
+-- rows below a place do not see what is stored there
+rows-below : (a : List ℕ) (o : List Bool) (i x : ℕ) (y : Bool) (n : ℕ) → n ≤ i → rowsOf (set a i x) (set o i y) n ≡ rowsOf a o n
+rows-below a o i x y zero l = refl
+rows-below a o i x y (suc n) l =
+    rw (getD-set-other a i n x 0 (λ e. omega arith), getD-set-other o i n y false (λ e. omega arith), rows-below a o i x y n (omega arith))
+
+pub with-held : (t : Rows) (r : Row) → Held t → Held (withRow t r)
+unfolding withRow
+with-held t r h = go (ltb (t .count) 16) refl
+  where
+    go : (b : Bool) → ltb (t .count) 16 ≡ b
+        → Held (cond b (record { addresses = set (t .addresses) (t .count) (r .address); opens = set (t .opens) (t .count) (r .opened); count = t .count + 1; more = t .more })
+        (record { addresses = t .addresses; opens = t .opens; count = t .count; more = true }))
+    go true e = record {
+      few = omega (arith, ltb-true (t .count) 16 e);
+      wide = simp length-set (h .wide);
+      long = simp length-set (h .long);
+      free = λ j l. getD-set-other (t .addresses) (t .count) j (r .address) 0 (λ z. omega arith) ∙ h .free j (omega arith);
+      shut = λ j l. getD-set-other (t .opens) (t .count) j (r .opened) false (λ z. omega arith) ∙ h .shut j (omega arith);
+    }
+    go false e = record { few = h .few; wide = h .wide; long = h .long; free = h .free; shut = h .shut }
+
+module _ (t : Rows) (r : Row) (few : t .count < 16) where
+  with-rows : Held t → heldRows (withRow t r) ≡ r ∷ heldRows t
+  unfolding withRow
+  with-rows h =
+      rw (
+        lt-ltb (t .count) 16 few,
+        add-one (t .count),
+        getD-set-same (t .addresses) (t .count) (r .address) 0 (omega (arith, h .wide)),
+        getD-set-same (t .opens) (t .count) (r .opened) false (omega (arith, h .long)),
+        rows-below (t .addresses) (t .opens) (t .count) (r .address) (r .opened) (t .count) (omega arith),
+      )
+
+  with-count : (withRow t r) .count ≡ t .count + 1
+  unfolding withRow
+  with-count = rw (lt-ltb (t .count) 16 few)
+
+  with-more : (withRow t r) .more ≡ t .more
+  unfolding withRow
+  with-more = rw (lt-ltb (t .count) 16 few)
+
+full-more : (t : Rows) (r : Row) → 16 ≤ t .count → (withRow t r) .more ≡ true
+unfolding withRow
+full-more t r full = rw (le-ltb (t .count) 16 full)
+
+-- ---- many rows
+
+pub withs-held : (ys : List Row) (t : Rows) → Held t → Held (withRows t ys)
+withs-held [] t h = h
+withs-held (r ∷ ys) t h = withs-held ys (withRow t r) (with-held t r h)
+
+read-few : (ys : List Row) (t : Rows) → Held t → t .more ≡ false → t .count + length ys ≤ 16
+    → (heldRows (withRows t ys) ≡ reverseAux ys (heldRows t)) × ((withRows t ys) .more ≡ false)
+read-few [] t h m l = (refl, m)
+read-few (r ∷ ys) t h m l =
+    let k : t .count < 16 = omega arith in
+    let p = read-few ys (withRow t r) (with-held t r h) (with-more t r k ∙ m) (omega (arith, with-count t r k)) in
+    (p .0 ∙ ap (reverseAux ys) (with-rows t r k h), p .1)
+
+-- a row too many is not forgotten
+more-stays : (ys : List Row) (t : Rows) → t .more ≡ true → (withRows t ys) .more ≡ true
+more-stays [] t m = m
+more-stays (r ∷ ys) t m = more-stays ys (withRow t r) (go (ltb (t .count) 16) refl)
+  where
+    go : (b : Bool) → ltb (t .count) 16 ≡ b → (withRow t r) .more ≡ true
+    go true e = with-more t r (ltb-true (t .count) 16 e) ∙ m
+    go false e = full-more t r (ltb-false (t .count) 16 e)
+
+read-many : (ys : List Row) (t : Rows) → t .count ≤ 16 → 16 < t .count + length ys → (withRows t ys) .more ≡ true
+read-many [] t f l = absurd (omega arith)
+read-many (r ∷ ys) t f l = go (ltb (t .count) 16) refl (read-many ys (withRow t r))
+  where
+    go : (b : Bool) → ltb (t .count) 16 ≡ b → ((withRow t r) .count ≤ 16 → 16 < (withRow t r) .count + length ys → (withRows (withRow t r) ys) .more ≡ true)
+        → (withRows (withRow t r) ys) .more ≡ true
+    go true e ih =
+        let k = ltb-true (t .count) 16 e in
+        ih (omega (arith, with-count t r k)) (omega (arith, with-count t r k))
+    go false e ih = more-stays ys (withRow t r) (full-more t r (ltb-false (t .count) 16 e))
+
+-- ---- lent rows
+
+same-all : {A : Type 0} (n j : ℕ) (d : A) → getD (replicate n d) j d ≡ d
+same-all zero j d = refl
+same-all (suc n) zero d = refl
+same-all (suc n) (suc j) d = same-all n j d
+
+pub none-held : Held noRows
+none-held = record { few = omega arith; wide = refl; long = refl; free = λ j l. same-all 16 j 0; shut = λ j l. same-all 16 j false }
+
+pub read-held : (rows : List Row) → Held (rowsRead rows)
+read-held rows = withs-held rows noRows none-held
+
+-- up to sixteen rows are held, the last first
+pub read-rows : (rows : List Row) → length rows ≤ 16 → heldRows (rowsRead rows) ≡ reverse rows
+read-rows rows l = read-few rows noRows none-held refl (omega arith) .0
+
+-- the rows are judged as the list of all lent rows is
+pub judge-read : (rows : List Row) → judgeRows (rowsRead rows) ≡ judgeTable rows
+unfolding judgeRows
+judge-read rows = go (ltb 16 (length rows)) refl
+  where
+    go : (b : Bool) → ltb 16 (length rows) ≡ b → judgeRows (rowsRead rows) ≡ judgeTable rows
+    go true e =
+        let l = ltb-true 16 (length rows) e in
+        rw (read-many rows noRows (omega arith) (omega arith)) (sym (judge-many rows l))
+    go false e =
+        let l = ltb-false 16 (length rows) e in
+        rw (read-few rows noRows none-held refl (omega arith) .1, read-rows rows l) (judge-reverse rows)
+
+-- set-up with the rows that were read is the set-up of the lent rows
+pub set-up-read : (rows : List Row) → setUpWith (rowsRead rows) ≡ setUpOf rows
+set-up-read rows = ap (λ (c : Checked). record { answer = c; rows = keptBy c (rowsRead rows) }) (judge-read rows)
+
+-- what set-up leaves is lawful
+pub kept-held : (c : Checked) (t : Rows) → Held t → Held (keptBy c t)
+kept-held Accepted t h = h
+kept-held (Refused r) t h = none-held
+
+-- ---- the same said at once
+
+module _ {A : Type 0} (f : Row → A) (d : A) where
+  column-more : (k : ℕ) (zs : List Row) (r : Row) → length zs < k → set (column f d k zs) (length zs) (f r) ≡ column f d k (zs ++ (r ∷ []))
+  column-more zero zs r l = absurd (not-suc-le-zero l)
+  column-more (suc k) [] r l = refl
+  column-more (suc k) (z ∷ zs) r l = ap {B = List A} (λ ys. f z ∷ ys) (column-more k zs r (le-of-suc-le-suc l))
+
+  column-full : (k : ℕ) (zs : List Row) (r : Row) → k ≤ length zs → column f d k (zs ++ (r ∷ [])) ≡ column f d k zs
+  column-full zero zs r l = refl
+  column-full (suc k) [] r l = absurd (not-suc-le-zero l)
+  column-full (suc k) (z ∷ zs) r l = ap {B = List A} (λ ys. f z ∷ ys) (column-full k zs r (le-of-suc-le-suc l))
+
+with-next : (t : Rows) (r : Row) → t .count < 16
+    → withRow t r ≡ record { addresses = set (t .addresses) (t .count) (r .address); opens = set (t .opens) (t .count) (r .opened); count = t .count + 1; more = t .more }
+unfolding withRow
+with-next t r few = rw (lt-ltb (t .count) 16 few)
+
+with-full : (t : Rows) (r : Row) → 16 ≤ t .count → withRow t r ≡ record { addresses = t .addresses; opens = t .opens; count = t .count; more = true }
+unfolding withRow
+with-full t r full = rw (le-ltb (t .count) 16 full)
+
+together : (a a′ : List ℕ) (o o′ : List Bool) (n n′ : ℕ) (m m′ : Bool) → a ≡ a′ → o ≡ o′ → n ≡ n′ → m ≡ m′
+    → _≡_ {A = Rows} (record { addresses = a; opens = o; count = n; more = m }) (record { addresses = a′; opens = o′; count = n′; more = m′ })
+together a a′ o o′ n n′ m m′ p q s u = cc
+
+-- the first rows of a list and one row more
+first-more : (zs : List Row) (r : Row) → withRow (firstRows zs) r ≡ firstRows (zs ++ (r ∷ []))
+first-more zs r = go (ltb (length zs) 16) refl
+  where
+    n : length (zs ++ (r ∷ [])) ≡ length zs + 1
+    n = length-append zs (r ∷ [])
+
+    go : (b : Bool) → ltb (length zs) 16 ≡ b → withRow (firstRows zs) r ≡ firstRows (zs ++ (r ∷ []))
+    go true e =
+        let l : length zs < 16 = ltb-true (length zs) 16 e in
+        let c : length (take 16 zs) ≡ length zs = ap length (take-all 16 zs (omega arith)) in
+        let d : length (take 16 (zs ++ (r ∷ []))) ≡ length zs + 1 = ap length (take-all 16 (zs ++ (r ∷ [])) (omega (arith, n))) ∙ n in
+        with-next (firstRows zs) r (omega arith)
+        ∙ together _ _ _ _ _ _ _ _
+        (ap (λ (k : ℕ). set (column (λ (x : Row). x .address) 0 16 zs) k (r .address)) c ∙ column-more (λ (x : Row). x .address) 0 16 zs r l)
+        (ap (λ (k : ℕ). set (column (λ (x : Row). x .opened) false 16 zs) k (r .opened)) c ∙ column-more (λ (x : Row). x .opened) false 16 zs r l)
+        (ap (λ (k : ℕ). k + 1) c ∙ sym d)
+        (le-ltb 16 (length zs) (omega arith) ∙ sym (le-ltb 16 (length (zs ++ (r ∷ []))) (omega (arith, n))))
+    go false e =
+        let l : 16 ≤ length zs = ltb-false (length zs) 16 e in
+        let c : length (take 16 zs) ≡ 16 = length-take-le 16 zs l in
+        let d : length (take 16 (zs ++ (r ∷ []))) ≡ 16 = length-take-le 16 (zs ++ (r ∷ [])) (omega (arith, n)) in
+        with-full (firstRows zs) r (omega arith)
+        ∙ together _ _ _ _ _ _ _ _
+        (sym (column-full (λ (x : Row). x .address) 0 16 zs r l))
+        (sym (column-full (λ (x : Row). x .opened) false 16 zs r l))
+        (c ∙ sym d)
+        (sym (lt-ltb 16 (length (zs ++ (r ∷ []))) (omega (arith, n))))
+
+first-all : (zs ys : List Row) → withRows (firstRows zs) ys ≡ firstRows (zs ++ ys)
+first-all zs [] = ap firstRows (sym (append-nil zs))
+first-all zs (r ∷ ys) = ap (λ (t : Rows). withRows t ys) (first-more zs r) ∙ first-all (zs ++ (r ∷ [])) ys ∙ ap firstRows (append-snoc zs r ys)
+
+-- the rows that were read are the first sixteen lent rows, with their number and whether there were more
+pub read-first : (rows : List Row) → rowsRead rows ≡ firstRows rows
+read-first rows = first-all [] rows
+
+-- reading one row more
+pub read-next : (rows : List Row) (r : Row) → withRow (rowsRead rows) r ≡ rowsRead (rows ++ (r ∷ []))
+read-next rows r = ap (λ (t : Rows). withRow t r) (read-first rows) ∙ first-more rows r ∙ sym (read-first (rows ++ (r ∷ [])))

@@ -1,0 +1,67 @@
+-- `table::has_misshapen` meets its contract: the rows passed are shaped. Assumes nothing.
+use Prim.Native.Nat.{ℕ, _≤_}
+use mathlib.Core.Path.{_≡_, sym, ap, _∙_}
+use native.Mathlib.Omega.{arith}
+use borrow.Author.Needs.{needs}
+use Rattle.lists.specs.Lists.{someOf}
+use Rattle.table.specs.Table.{misshapen, rowsOf}
+use Rattle.table.proofs.Walks.{some-here, some-past}
+use Rattle.table.proofs.has_misshapen.Statement.{statement}
+use Rattle.table.proofs.has_misshapen.Tie as tie
+
+abbrev Inv-loop : tie.InvT-loop
+Inv-loop addresses opens count i₀ i = (i ≤ count) × (someOf misshapen (rowsOf addresses opens i) ≡ someOf misshapen (rowsOf addresses opens count))
+
+abbrev μ-loop : tie.MeasureT-loop
+μ-loop addresses opens count i₀ i = i
+
+loop-holds : tie.Need-loop-holds Inv-loop μ-loop
+loop-holds c = search needs
+
+sub-i : tie.Need-sub-i Inv-loop μ-loop
+sub-i c = search needs
+
+mul-is-shaped : tie.Need-mul-is-shaped Inv-loop μ-loop
+mul-is-shaped c = search needs
+
+element-copy-out-is-shaped : tie.Need-element-copy-out-is-shaped Inv-loop μ-loop
+element-copy-out-is-shaped c = search needs
+
+is-shaped-requires : tie.Need-is-shaped-requires Inv-loop μ-loop
+is-shaped-requires c κs = search needs
+
+returns : tie.Need-returns Inv-loop μ-loop
+returns c =
+    let s = c .before .before .before .before in
+    sym (some-here _ _ (s .loop .i) (search needs) misshapen (rw (sym (c .before .is-shaped .ensures), c .if1 .taken))) ∙ s .loop .inv .1
+
+loop-less : tie.Need-loop-less Inv-loop μ-loop
+loop-less c = search needs
+
+loop-again : tie.Need-loop-again Inv-loop μ-loop
+loop-again c =
+    let s = c .before .before .before .before in
+    (search needs, sym (some-past _ _ (s .loop .i) (search needs) misshapen (rw (sym (c .before .is-shaped .ensures), c .if1 .left))) ∙ s .loop .inv .1)
+
+returns-2 : tie.Need-returns-2 Inv-loop μ-loop
+returns-2 c =
+    let s = c .before in
+    let a = s .before .args in
+    let e : s .loop .i ≡ 0 = omega arith in
+    ap (λ (k : ℕ). someOf misshapen (rowsOf (a .addresses .now) (a .opens .now) k)) (sym e) ∙ s .loop .inv .1
+
+pub has-misshapen-spec : {M : Type 1} → statement M
+has-misshapen-spec =
+    tie.close
+    (tie.spec
+    Inv-loop
+    μ-loop
+    loop-holds
+    sub-i
+    mul-is-shaped
+    element-copy-out-is-shaped
+    is-shaped-requires
+    returns
+    loop-less
+    loop-again
+    returns-2)

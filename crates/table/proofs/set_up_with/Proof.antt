@@ -1,0 +1,39 @@
+-- `table::set_up_with` meets its contract: the rows stay by what `check` answers. Assumes nothing.
+use mathlib.Core.Path.{_≡_, sym, ap, _∙_}
+use borrow.Author.Needs.{needs}
+use Rattle.table.specs.declared.Checked.{Checked}
+use Rattle.table.specs.declared.Rows.{Rows}
+use Rattle.table.specs.Table.{judgeRows, keptBy, setUpWith}
+use Rattle.table.proofs.set_up_with.Statement.{statement}
+use Rattle.table.proofs.set_up_with.Tie as tie
+
+check-requires : tie.Need-check-requires
+check-requires c κs = search needs
+
+enum-told : tie.Need-enum-told
+enum-told c = search needs
+
+enum-told-2 : tie.Need-enum-told-2
+enum-told-2 c = search needs
+
+no-rows-requires : tie.Need-no-rows-requires
+no-rows-requires c κs = search needs
+
+-- an answer with the rows that it leaves
+leaves : (t u : Rows) (r : Checked) → r ≡ judgeRows t → u ≡ keptBy r t → record { answer = r; rows = u } ≡ setUpWith t
+leaves t u r e k = rw (k, e)
+
+returns : tie.Need-returns
+returns c =
+    let t = c .before .before .before .args .rows in
+    leaves t t _ (c .before .before .check .ensures) (ap (λ (r : Checked). keptBy r t) (sym (c .enum-told .given .1)))
+
+returns-2 : tie.Need-returns-2
+returns-2 c =
+    let t = c .before .before .before .before .args .rows in
+    leaves t _ _ (c .before .before .before .check .ensures)
+    (c .no-rows .ensures ∙ ap (λ (r : Checked). keptBy r t) (sym (c .before .enum-told2 .given .1)))
+
+pub set-up-with-spec : {M : Type 1} → statement M
+set-up-with-spec =
+    tie.close (tie.spec check-requires enum-told enum-told-2 no-rows-requires returns returns-2)
