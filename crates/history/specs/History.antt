@@ -1,11 +1,13 @@
 -- How far each contract reaches: 'Demand 3's history lists all calls since the fresh router, with bytes and outcomes.'
 use Prim.Native.Nat.{ℕ, _+_}
-use mathlib.Core.Bool.{Bool, true, false, not, _&&_, cond}
+use mathlib.Core.Path.{_≡_}
+use mathlib.Core.Bool.{Bool, true, false, not, _&&_, _||_, cond}
 use mathlib.Core.List.{List, [], _∷_, _++_}
 use mathlib.Core.Option.{Option, none, some}
 use lib.Dec.{eqb}
 use lib.ListN.{length}
-use Rattle.lists.specs.Lists.{one, keep}
+use Rattle.lists.specs.Lists.{one, count, keep}
+use Rattle.tapa.specs.Address.{handlerOf}
 use Rattle.table.specs.declared.Row.{Row}
 use Rattle.places.specs.declared.Place.{Place}
 use Rattle.places.specs.Places.{isOpen, isOwed, asksExactly, owesExactly, owedBy, owing}
@@ -152,9 +154,46 @@ isSwallowed (Given asker asked t) = false
 isSwallowed (Reset h) = false
 isSwallowed (Refused r) = false
 
+abbrev pub isReset : Outcome → Bool
+isReset (Passed asker asked kind t) = false
+isReset (Answered asked asker t k) = false
+isReset (Swallowed asked t) = false
+isReset Event = false
+isReset (Turned asker asked t k) = false
+isReset (Given asker asked t) = false
+isReset (Reset h) = true
+isReset (Refused r) = false
+
+-- an outcome that is to end exactly one: 'Each answered, given or swallowed outcome'
+abbrev pub endsOne : Outcome → Bool
+endsOne o = isAnswered o || (isGiven o || isSwallowed o)
+
 -- ---- what became of one command
 
 -- how often a history ended a command's wait or owing by an outcome of some kind
 abbrev pub timesEnded : (Outcome → Bool) → List Entry → Sent → ℕ
 timesEnded q [] c = 0
 timesEnded q (e ∷ h) c = one (q (e .outcome) && meets (ends (e .outcome)) (standing h c)) + timesEnded q h c
+
+-- a command was asked by this asker, of exactly this address, on this thread
+pub record Was (c : Sent) (asker asked t : ℕ) : Type 0 where
+  pub its-asker : c .command .asker ≡ asker
+  pub its-asked : c .command .asked ≡ asked
+  pub its-thread : c .command .thread ≡ t
+
+-- what an outcome says of a command that it ends: a response goes to the command's asker, from its asked address, on its thread
+abbrev pub Concerns : Outcome → Sent → Type 0
+Concerns (Passed asker asked kind t) c = Unit {0}
+Concerns (Answered asked asker t k) c = Was c asker asked t
+Concerns (Swallowed asked t) c = Was c (c .command .asker) asked t
+Concerns Event c = Unit {0}
+Concerns (Turned asker asked t k) c = Unit {0}
+Concerns (Given asker asked t) c = Was c asker asked t
+Concerns (Reset h) c = handlerOf (c .command .asked) ≡ h
+Concerns (Refused r) c = Unit {0}
+
+-- ---- totals
+
+-- how many outcomes of a history pass a test
+abbrev pub total : (Outcome → Bool) → List Entry → ℕ
+total q h = count (λ (e : Entry). q (e .outcome)) h
