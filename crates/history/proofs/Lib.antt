@@ -4,3 +4,4 @@ pub mod Ends
 pub mod Fates
 pub mod Totals
 pub mod Marks
+pub mod Example
