@@ -1,6 +1,7 @@
 pub mod Lists
 pub mod Waits
 pub mod Allowed
+pub mod Says
 pub mod Trees
 pub mod Kept
 pub mod Bound
