@@ -20,7 +20,8 @@ use Rattle.rules.specs.declared.Outcome.the-variants.{Passed, Answered, Swallow
 use Rattle.rules.specs.Judge.{judge}
 use Rattle.rules.specs.Conduct.{Conduct}
 use Rattle.rules.proofs.Lists.{split, clash, differ, and-yes, count-some, first-yes, first-meets}
-use Rattle.rules.proofs.Waits.{exact-open, exact-on, open-thread, owes-owed}
+use Rattle.places.proofs.Two.{asks-open, owes-owed}
+use Rattle.rules.proofs.Waits.{exact-on, open-thread}
 use Rattle.rules.proofs.Allowed.{Allowed, Innermost, allowed}
 use Rattle.rules.proofs.After.{exact-once}
 use Rattle.history.specs.History.{Step, Entry, viewAfter, history, Sent, sent, standing, meets, ends, ended, endsOne, Was, Concerns}
@@ -96,7 +97,7 @@ module _ (h : List Entry) (v : View) (c : Conduct v) (k : stood h (sent h) ≡ v
   of-wait asker asked t n m =
       let y = met (asksExactly asked t) (standing h d) m in
       let w : y .0 ≡ n .it = only (asksExactly asked t) (v .places) (n .it) (y .0) (omega (arith, exact-once v c asked t)) (n .found) (standing-in (y .0) (y .1)) (y .2) in
-      let s : n .it ≡ d .command = sym w ∙ open-as h d (y .0) (y .1) (exact-open asked t (y .0) (y .2)) in
+      let s : n .it ≡ d .command = sym w ∙ open-as h d (y .0) (y .1) (asks-open asked t (y .0) (y .2)) in
       let f = first-yes (asksExactly asked t) (v .places) (n .it) (n .found) in record {
         its-asker = rw (← s) (n .its-asker);
         its-asked = rw (← s) (n .its-asked);

@@ -16,7 +16,7 @@ use Rattle.places.specs.Places.{isOpen, isOwed, asksExactly, owesExactly, asks,
 use Rattle.rules.specs.declared.Outcome.{Outcome}
 use Rattle.rules.specs.declared.Outcome.the-variants.{Passed, Answered, Swallowed, Event, Turned, Given, Reset, Refused}
 use Rattle.rules.proofs.Lists.{split, and-yes}
-use Rattle.rules.proofs.Waits.{exact-open, owes-owed}
+use Rattle.places.proofs.Two.{asks-open, owes-owed}
 use Rattle.history.specs.History.{Entry, Sent, starts, sent, lives, livesOn, standing, meets, ends, isAnswered, isGiven, isSwallowed, isReset, timesEnded}
 use Rattle.history.proofs.Lists.{in-either, in-all}
 use Rattle.history.proofs.Told.{sent-before, older, unsent}
@@ -28,13 +28,13 @@ wait-goes : (o : Outcome) (p : Place)
     → one (meets isOpen (lives o p)) + (one (isAnswered o && ends o p) + one (isGiven o && ends o p)) ≡ one (isOpen p)
 wait-goes (Passed asker asked kind t) p = omega arith
 wait-goes (Answered asked asker t k) p =
-    split (asksExactly asked t p) (λ b. rw (b, exact-open asked t p b) (omega arith)) (λ b. rw b (omega arith))
+    split (asksExactly asked t p) (λ b. rw (b, asks-open asked t p b) (omega arith)) (λ b. rw b (omega arith))
 wait-goes (Swallowed asked t) p =
     split (owesExactly asked t p) (λ b. let n : isOpen p ≡ false = rw (owes-owed asked t p b) in rw (b, n) (omega arith)) (λ b. rw b (omega arith))
 wait-goes Event p = omega arith
 wait-goes (Turned asker asked t k) p = omega arith
 wait-goes (Given asker asked t) p =
-    split (asksExactly asked t p) (λ b. rw (b, exact-open asked t p b) (omega arith)) (λ b. rw b (omega arith))
+    split (asksExactly asked t p) (λ b. rw (b, asks-open asked t p b) (omega arith)) (λ b. rw b (omega arith))
 wait-goes (Reset h) p =
     split (owedBy h p) (λ b. let n : isOpen p ≡ false = rw (and-yes (isOwed p) (asks h p) b .0) in rw (b, n) (omega arith)) (λ b. rw b (omega arith))
 wait-goes (Refused r) p = omega arith
@@ -44,13 +44,13 @@ owing-goes : (o : Outcome) (p : Place)
     → one (meets isOwed (lives o p)) + (one (isSwallowed o && ends o p) + one (isReset o && ends o p)) ≡ one (isOwed p) + one (isGiven o && ends o p)
 owing-goes (Passed asker asked kind t) p = omega arith
 owing-goes (Answered asked asker t k) p =
-    split (asksExactly asked t p) (λ b. let n : isOwed p ≡ false = not-true (isOwed p) (exact-open asked t p b) in rw (b, n) (omega arith)) (λ b. rw b (omega arith))
+    split (asksExactly asked t p) (λ b. let n : isOwed p ≡ false = not-true (isOwed p) (asks-open asked t p b) in rw (b, n) (omega arith)) (λ b. rw b (omega arith))
 owing-goes (Swallowed asked t) p =
     split (owesExactly asked t p) (λ b. rw (b, owes-owed asked t p b) (omega arith)) (λ b. rw b (omega arith))
 owing-goes Event p = omega arith
 owing-goes (Turned asker asked t k) p = omega arith
 owing-goes (Given asker asked t) p =
-    split (asksExactly asked t p) (λ b. let n : isOwed p ≡ false = not-true (isOwed p) (exact-open asked t p b) in rw (b, n) (omega arith)) (λ b. rw b (omega arith))
+    split (asksExactly asked t p) (λ b. let n : isOwed p ≡ false = not-true (isOwed p) (asks-open asked t p b) in rw (b, n) (omega arith)) (λ b. rw b (omega arith))
 owing-goes (Reset h) p =
     split (owedBy h p) (λ b. rw (b, and-yes (isOwed p) (asks h p) b .0) (omega arith)) (λ b. rw b (omega arith))
 owing-goes (Refused r) p = omega arith

@@ -13,15 +13,6 @@ use Rattle.rules.proofs.Lists.{split, clash, differ, count-zero}
 module _ {A : Type 0} where
   -- ---- members
 
-  pub in-left : (x : A) (l m : List A) → In x l → In x (l ++ m)
-  in-left x [] m i = absurd i
-  in-left x (y ∷ l) m (inl e) = inl e
-  in-left x (y ∷ l) m (inr i) = inr (in-left x l m i)
-
-  pub in-right : (x : A) (l m : List A) → In x m → In x (l ++ m)
-  in-right x [] m i = i
-  in-right x (y ∷ l) m i = inr (in-right x l m i)
-
   pub in-either : (x : A) (l m : List A) → In x (l ++ m) → In x l ⊎ In x m
   in-either x [] m i = inr i
   in-either x (y ∷ l) m (inl e) = inl (inl e)

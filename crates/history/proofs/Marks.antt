@@ -23,7 +23,7 @@ use Rattle.rules.proofs.Allowed.{Allowed, Innermost, allowed}
 use Rattle.rules.proofs.After.{exact-once}
 use Rattle.history.specs.History.{Step, Entry, viewAfter, history, Sent, starts, sent, lives, livesOn, standing, meets, ends, ended, endsOne}
 use Rattle.history.specs.Marks.{addressed, isReply, fits, replaces, replacedSince, used, Marked, Honest, Bears}
-use Rattle.history.proofs.Lists.{in-left, in-right, in-either, in-keep, in-count, in-one, in-all}
+use Rattle.history.proofs.Lists.{in-either, in-keep, in-count, in-one, in-all}
 use Rattle.history.proofs.Told.{conduct-after, sent-before, sent-open, older, stood, told, stands-as, owed-as}
 use Rattle.history.proofs.Ends.{one-ended, stood-in}
 

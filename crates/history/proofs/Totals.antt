@@ -16,7 +16,8 @@ use Rattle.rules.specs.declared.Outcome.the-variants.{Passed, Answered, Swallow
 use Rattle.rules.specs.Judge.{judge}
 use Rattle.rules.specs.Apply.{placesAfter}
 use Rattle.rules.proofs.Lists.{length-first}
-use Rattle.rules.proofs.Waits.{waits-answered, waits-given, waits-swallowed, waits-reset, found-waits}
+use Rattle.places.proofs.Two.{waits-stay}
+use Rattle.rules.proofs.Waits.{waits-answered, waits-given, waits-swallowed, found-waits}
 use Rattle.rules.proofs.Allowed.{Allowed, Innermost, allowed}
 use Rattle.history.specs.History.{Step, Entry, viewAfter, history, starts, sent, isPassed, isAnswered, isGiven, total}
 
@@ -47,7 +48,7 @@ step-balances v (Swallowed asked t) a = rw (waits-swallowed asked t (v .places))
 step-balances v Event a = omega arith
 step-balances v (Turned asker asked t k) a = omega arith
 step-balances v (Given asker asked t) a = rw (waits-given asked t (v .places)) (omega (arith, ended-wait v asker asked t a))
-step-balances v (Reset h) a = rw (waits-reset h (v .places)) (omega arith)
+step-balances v (Reset h) a = rw (waits-stay h (v .places)) (omega arith)
 step-balances v (Refused r) a = omega arith
 
 -- accepted = answered + given up + waiting, at every moment

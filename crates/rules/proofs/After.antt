@@ -11,16 +11,17 @@ use Rattle.lists.specs.Lists.{one, count, someOf, keep, first, without, changed
 use Rattle.tapa.specs.Address.{handlerOf, multi}
 use Rattle.tapa.specs.Codes.{done, openHandler, closeHandler}
 use Rattle.table.specs.declared.Row.{Row}
-use Rattle.table.specs.Table.{isAt, isOpenAt, listed, openedAt, marked, setOpened, Proper}
+use Rattle.table.specs.Table.{listed, openedAt, setOpened, Proper}
 use Rattle.places.specs.declared.Place.{Place}
 use Rattle.places.specs.Places.{isOpen, isOwed, onThread, openOn, owedOn, asksExactly, owesExactly, asks, standsIn, stands, standsOn, onSlot, notOwedBy, owing}
+use Rattle.table.proofs.Marks.{set-opened}
 use Rattle.rules.specs.View.{View}
 use Rattle.rules.specs.declared.Outcome.the-variants.{Passed, Answered, Swallowed, Given, Reset}
 use Rattle.rules.specs.Judge.{busy}
 use Rattle.rules.specs.Apply.{place, reopened, applied}
 use Rattle.rules.specs.Conduct.{Conduct}
 use Rattle.rules.proofs.Lists.{split, clash, and-yes, or-no, eqb-same, count-le, count-apart, count-none, count-some, count-first, some-changed, some-kept, none-le, first-yes, first-meets}
-use Rattle.rules.proofs.Waits.{open-thread, exact-on, exact-open, owes-owed}
+use Rattle.rules.proofs.Waits.{open-thread, exact-on}
 use Rattle.rules.proofs.Allowed.{Innermost, Idle}
 
 -- ---- one command on an exact address and thread
@@ -99,31 +100,20 @@ reset-ends v h i =
         let y = and-yes (notOwedBy h p) (asks h p) q in
         split (isOwed p) (λ b. let n : not true ≡ true = rw (b, y .1) at (y .0) in clash false n refl) (λ b. rw (b, y .1, or-true))
 
--- the mark of a handler that stands in one row
-pub set-marks : (h : ℕ) (b : Bool) (rows : List Row) → count (isAt h) rows ≤ 1 → listed h rows ≡ true → openedAt h (setOpened h b rows) ≡ b
-set-marks h b [] c e = clash false e refl
-set-marks h b (r ∷ rows) c e =
-    split (isAt h r)
-    (λ p.
-    let c′ : 1 + count (isAt h) rows ≤ 1 = rw p at c in
-    rw (p, p) (split b (λ q. rw q) (λ q. rw q (others rows (omega arith)))))
-    (λ p. rw (p, p) (set-marks h b rows (omega arith) (rw p at e)))
-  where
-    others : (l : List Row) → count (isAt h) l ≡ 0 → openedAt h l ≡ false
-    others [] n = refl
-    others (x ∷ l) n =
-        split (isAt h x) (λ p. let n′ : 1 + count (isAt h) l ≡ 0 = rw p at n in absurd (omega arith)) (λ p. rw p (others l (omega arith)))
+-- the mark of a handler of the table
+marked-now : (h : ℕ) (b : Bool) (rows : List Row) → Proper rows → listed h rows ≡ true → openedAt h (setOpened h b rows) ≡ b
+marked-now h b rows p y = set-opened h b rows (p .once h) ∙ rw y
 
 pub reset-closes : (v : View) (h : ℕ) → Proper (v .rows) → Idle v h → openedAt h (applied (Reset h) v .rows) ≡ false
-reset-closes v h p i = set-marks h false (v .rows) (p .once h) (i .in-table)
+reset-closes v h p i = marked-now h false (v .rows) p (i .in-table)
 
 -- ---- 'If it was Open Handler or Close Handler and the code is '0000', the handler becomes open or closed.'
 
 module _ (v : View) (asker asked t : ℕ) (i : Innermost v asker asked t) (p : Proper (v .rows)) (y : listed (handlerOf asked) (v .rows) ≡ true) where
   pub answered-opens : i .it .kind ≡ openHandler → openedAt (handlerOf asked) (applied (Answered asked asker t done) v .rows) ≡ true
   unfolding reopened
-  answered-opens k = rw (i .found, k, i .its-asked) (set-marks (handlerOf asked) true (v .rows) (p .once (handlerOf asked)) y)
+  answered-opens k = rw (i .found, k, i .its-asked) (marked-now (handlerOf asked) true (v .rows) p y)
 
   pub answered-closes : i .it .kind ≡ closeHandler → openedAt (handlerOf asked) (applied (Answered asked asker t done) v .rows) ≡ false
   unfolding reopened
-  answered-closes k = rw (i .found, k, i .its-asked) (set-marks (handlerOf asked) false (v .rows) (p .once (handlerOf asked)) y)
+  answered-closes k = rw (i .found, k, i .its-asked) (marked-now (handlerOf asked) false (v .rows) p y)
