@@ -1,25 +1,25 @@
 -- Each answered, given or swallowed outcome ends exactly one command, and a reply goes to the one that asked.
-use Prim.Native.Nat.{ℕ, suc, _+_, _≤_, _<_}
+use Prim.Native.Nat.{ℕ, _+_, _≤_}
 use mathlib.Core.Path.{_≡_, refl, sym, ap, _∙_}
-use mathlib.Core.Logic.{_⊎_, inl, inr}
-use mathlib.Core.Bool.{Bool, true, false, not, _&&_, _||_, cond}
-use mathlib.Core.List.{List, [], _∷_, map}
+use mathlib.Core.Logic.{inl, inr}
+use mathlib.Core.Bool.{Bool, true, false}
+use mathlib.Core.List.{List, [], _∷_}
 use mathlib.Core.Option.{Option, none, some}
 use native.Mathlib.Omega.{arith}
 use lib.Dec.{eqb}
 use lib.ListN.{length}
 use borrow.Author.Tests.{eqb-true}
-use Rattle.lists.specs.Lists.{one, count, someOf, keep, first, All, In}
+use Rattle.lists.specs.Lists.{one, count, first, In}
 use Rattle.tapa.specs.Address.{handlerOf}
 use Rattle.table.specs.declared.Row.{Row}
 use Rattle.places.specs.declared.Place.{Place}
-use Rattle.places.specs.Places.{isOpen, isOwed, onThread, openOn, owedOn, asksExactly, owesExactly, asks, owedBy, owing}
+use Rattle.places.specs.Places.{isOpen, isOwed, onThread, owedOn, asksExactly, owesExactly, asks, owedBy, owing}
 use Rattle.rules.specs.View.{View}
 use Rattle.rules.specs.declared.Outcome.{Outcome}
 use Rattle.rules.specs.declared.Outcome.the-variants.{Passed, Answered, Swallowed, Event, Turned, Given, Reset, Refused}
 use Rattle.rules.specs.Judge.{judge}
 use Rattle.rules.specs.Conduct.{Conduct}
-use Rattle.rules.proofs.Lists.{split, clash, differ, and-yes, count-some, first-yes, first-meets}
+use Rattle.rules.proofs.Lists.{split, clash, and-yes, count-some, first-yes, first-meets}
 use Rattle.places.proofs.Two.{asks-open, owes-owed}
 use Rattle.rules.proofs.Waits.{exact-on, open-thread}
 use Rattle.rules.proofs.Allowed.{Allowed, Innermost, allowed}

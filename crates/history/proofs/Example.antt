@@ -2,22 +2,18 @@
 use Prim.Native.Nat.{ℕ}
 use mathlib.Core.Path.{_≡_, refl}
 use mathlib.Core.Logic.{inl, inr}
-use mathlib.Core.Bool.{Bool, true, false, cond}
+use mathlib.Core.Bool.{true, false, cond}
 use mathlib.Core.List.{List, [], _∷_, map}
 use lib.Dec.{eqb}
-use lib.ListN.{length}
 use Rattle.tapa.specs.Address.{categoryOf, handlerOf, multi}
 use Rattle.tapa.specs.Types.{own, common}
 use Rattle.message.specs.Message.{readOf, partOf, codeOf}
-use Rattle.table.specs.declared.Row.{Row}
-use Rattle.places.specs.declared.Place.{Place}
-use Rattle.rules.specs.declared.Outcome.{Outcome}
 use Rattle.rules.specs.declared.Outcome.the-variants.{Passed, Answered, Swallowed, Given}
 use Rattle.rules.specs.Judge.{Call, message, late, reply, judgeResponse, busy, judgeCommand, judgeKind, judgeRead, judgeMessage, yields, judgeGiveUp}
 use Rattle.rules.specs.Apply.{place, reopened}
 use Rattle.rules.proofs.Lists.{clash}
 use Rattle.rules.proofs.Sums.{rows, first-call, second-call, third-call, fourth-call}
-use Rattle.history.specs.History.{Step, Entry, history, Sent, openIn, owedIn, isPassed, isAnswered, isGiven, total}
+use Rattle.history.specs.History.{Step, Entry, history, openIn, owedIn, isPassed, isAnswered, isGiven, total}
 use Rattle.history.specs.Marks.{Honest, Bears}
 use Rattle.history.proofs.Marks.{marks}
 

@@ -1,14 +1,14 @@
 -- Laws of lists that the history needs: members, and elements that are changed or left out one by one.
-use Prim.Native.Nat.{ℕ, suc, _+_, _≤_}
-use mathlib.Core.Path.{_≡_, refl, sym, ap, _∙_}
+use Prim.Native.Nat.{_+_, _≤_}
+use mathlib.Core.Path.{_≡_, refl}
 use mathlib.Core.Logic.{_⊎_, inl, inr}
-use mathlib.Core.Bool.{Bool, true, false, not, cond}
+use mathlib.Core.Bool.{Bool, true, not, cond}
 use mathlib.Core.List.{List, [], _∷_, _++_}
 use mathlib.Core.Option.{Option, none, some}
 use native.Mathlib.Omega.{arith}
 use lib.ListN.{length}
-use Rattle.lists.specs.Lists.{one, count, someOf, keep, changed, All, In}
-use Rattle.rules.proofs.Lists.{split, clash, differ, count-zero}
+use Rattle.lists.specs.Lists.{count, keep, changed, All, In}
+use Rattle.rules.proofs.Lists.{split, count-zero}
 
 module _ {A : Type 0} where
   -- ---- members

@@ -1,30 +1,30 @@
 -- A response that was not refused bears the mark of the command that it ends.
-use Prim.Native.Nat.{ℕ, suc, _+_, _≤_, _<_}
+use Prim.Native.Nat.{ℕ, _≤_, _<_}
 use mathlib.Core.Path.{_≡_, refl, sym, ap, _∙_}
-use mathlib.Core.Logic.{_⊎_, inl, inr}
-use mathlib.Core.Bool.{Bool, true, false, not, _||_, _&&_, cond, or-true}
-use mathlib.Core.List.{List, [], _∷_, _++_}
-use mathlib.Core.Option.{Option, none, some}
+use mathlib.Core.Logic.{inl, inr}
+use mathlib.Core.Bool.{Bool, true, false, or-true}
+use mathlib.Core.List.{List, [], _∷_}
+use mathlib.Core.Option.{some}
 use native.Mathlib.Omega.{arith}
-use lib.Dec.{eqb, ltb}
+use lib.Dec.{eqb}
 use lib.ListN.{length}
-use borrow.Author.Tests.{eqb-true, eq-eqb, lt-ltb}
-use Rattle.lists.specs.Lists.{count, someOf, keep, In}
+use borrow.Author.Tests.{eq-eqb, lt-ltb}
+use Rattle.lists.specs.Lists.{count, In}
 use Rattle.table.specs.declared.Row.{Row}
 use Rattle.places.specs.declared.Place.{Place}
-use Rattle.places.specs.Places.{isOpen, isOwed, onThread, asksExactly, owesExactly, asks, owedBy, owing}
+use Rattle.places.specs.Places.{isOwed, onThread, asksExactly, owesExactly, asks, owedBy, owing}
 use Rattle.rules.specs.View.{View}
 use Rattle.rules.specs.declared.Outcome.{Outcome}
 use Rattle.rules.specs.declared.Outcome.the-variants.{Passed, Answered, Swallowed, Event, Turned, Given, Reset, Refused}
 use Rattle.rules.specs.Judge.{judge}
 use Rattle.rules.specs.Conduct.{Conduct}
-use Rattle.rules.proofs.Lists.{split, clash, differ, and-yes, count-some, first-yes, first-meets}
-use Rattle.rules.proofs.Allowed.{Allowed, Innermost, allowed}
+use Rattle.rules.proofs.Lists.{split, clash, and-yes, count-some, first-yes, first-meets}
+use Rattle.rules.proofs.Allowed.{Allowed, allowed}
 use Rattle.rules.proofs.After.{exact-once}
 use Rattle.history.specs.History.{Step, Entry, viewAfter, history, Sent, starts, sent, lives, livesOn, standing, meets, ends, ended, endsOne}
-use Rattle.history.specs.Marks.{addressed, isReply, fits, replaces, replacedSince, used, Marked, Honest, Bears}
+use Rattle.history.specs.Marks.{addressed, isReply, fits, replacedSince, used, Marked, Honest, Bears}
 use Rattle.history.proofs.Lists.{in-either, in-keep, in-count, in-one, in-all}
-use Rattle.history.proofs.Told.{conduct-after, sent-before, sent-open, older, stood, told, stands-as, owed-as}
+use Rattle.history.proofs.Told.{conduct-after, sent-before, older, stood, told, stands-as}
 use Rattle.history.proofs.Ends.{one-ended, stood-in}
 
 -- ---- the mark's address is that of the wait or of the owing

@@ -1,14 +1,11 @@
 -- The totals balance: 'accepted, answered, given up, waiting'.
 use Prim.Native.Nat.{ℕ, suc, _+_}
-use mathlib.Core.Path.{_≡_, refl, sym, ap, _∙_}
-use mathlib.Core.Bool.{Bool, true, false}
+use mathlib.Core.Path.{_≡_, refl, _∙_}
 use mathlib.Core.List.{List, [], _∷_, _++_}
-use mathlib.Core.Option.{Option, none, some}
 use native.Mathlib.Omega.{arith}
 use lib.ListN.{length}
-use Rattle.lists.specs.Lists.{one, count, first, without}
+use Rattle.lists.specs.Lists.{one, without}
 use Rattle.table.specs.declared.Row.{Row}
-use Rattle.places.specs.declared.Place.{Place}
 use Rattle.places.specs.Places.{waits, asksExactly}
 use Rattle.rules.specs.View.{View}
 use Rattle.rules.specs.declared.Outcome.{Outcome}

@@ -1,26 +1,26 @@
 -- What stands after an outcome, in the page's words.
 use Prim.Native.Nat.{ℕ, _+_, _≤_}
-use mathlib.Core.Path.{_≡_, refl, sym, ap, _∙_}
-use mathlib.Core.Bool.{Bool, true, false, not, _||_, _&&_, cond, or-true}
+use mathlib.Core.Path.{_≡_, refl, ap, _∙_}
+use mathlib.Core.Bool.{Bool, true, false, not, _||_, _&&_, or-true}
 use mathlib.Core.List.{List, [], _∷_}
-use mathlib.Core.Option.{Option, none, some}
+use mathlib.Core.Option.{some}
 use native.Mathlib.Omega.{arith}
 use lib.Dec.{eqb}
 use borrow.Author.Tests.{eqb-true, eq-eqb}
-use Rattle.lists.specs.Lists.{one, count, someOf, keep, first, without, changed}
+use Rattle.lists.specs.Lists.{count, someOf, first, without, changed}
 use Rattle.tapa.specs.Address.{handlerOf, multi}
 use Rattle.tapa.specs.Codes.{done, openHandler, closeHandler}
 use Rattle.table.specs.declared.Row.{Row}
 use Rattle.table.specs.Table.{listed, openedAt, setOpened, Proper}
 use Rattle.places.specs.declared.Place.{Place}
-use Rattle.places.specs.Places.{isOpen, isOwed, onThread, openOn, owedOn, asksExactly, owesExactly, asks, standsIn, stands, standsOn, onSlot, notOwedBy, owing}
+use Rattle.places.specs.Places.{isOwed, onThread, openOn, owedOn, asksExactly, owesExactly, asks, standsIn, onSlot, notOwedBy, owing}
 use Rattle.table.proofs.Marks.{set-opened}
 use Rattle.rules.specs.View.{View}
 use Rattle.rules.specs.declared.Outcome.the-variants.{Passed, Answered, Swallowed, Given, Reset}
 use Rattle.rules.specs.Judge.{busy}
 use Rattle.rules.specs.Apply.{place, reopened, applied}
 use Rattle.rules.specs.Conduct.{Conduct}
-use Rattle.rules.proofs.Lists.{split, clash, and-yes, or-no, eqb-same, count-le, count-apart, count-none, count-some, count-first, some-changed, some-kept, none-le, first-yes, first-meets}
+use Rattle.rules.proofs.Lists.{split, clash, and-yes, eqb-same, count-apart, some-changed, some-kept, none-le, first-yes, first-meets}
 use Rattle.rules.proofs.Waits.{open-thread, exact-on}
 use Rattle.rules.proofs.Allowed.{Innermost, Idle}
 

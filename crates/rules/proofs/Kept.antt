@@ -1,12 +1,11 @@
 -- The law is kept: an accepted table stays proper, and the conduct holds in the fresh view and after every outcome that `judge` can give.
-use Prim.Native.Nat.{ℕ, _+_, _≤_}
-use mathlib.Core.Path.{_≡_, refl, sym, ap, _∙_}
-use mathlib.Core.Bool.{Bool, true, false, not, _||_, _&&_, cond}
+use Prim.Native.Nat.{ℕ, _≤_}
+use mathlib.Core.Path.{_≡_, refl, _∙_}
+use mathlib.Core.Bool.{Bool, true, false, not, _||_, _&&_}
 use mathlib.Core.List.{List, [], _∷_}
 use mathlib.Core.Option.{Option, none, some}
 use native.Mathlib.Omega.{arith}
 use lib.Dec.{eqb}
-use lib.ListN.{length}
 use borrow.Author.Tests.{eqb-true}
 use Rattle.lists.specs.Lists.{count, someOf, keep, first, without, changed, All}
 use Rattle.tapa.specs.Address.{categoryOf, handlerOf, multi}
@@ -21,12 +20,12 @@ use Rattle.rules.specs.View.{View, fresh}
 use Rattle.rules.specs.declared.Outcome.{Outcome}
 use Rattle.rules.specs.declared.Outcome.the-variants.{Passed, Answered, Swallowed, Event, Turned, Given, Reset, Refused}
 use Rattle.rules.specs.Judge.{busy, Call, judge}
-use Rattle.rules.specs.Apply.{place, reopened, rowsAfter, placesAfter, applied}
+use Rattle.rules.specs.Apply.{place, reopened, rowsAfter, applied}
 use Rattle.rules.specs.Conduct.{Placed, Tree, Chained, Conduct}
 use Rattle.rules.proofs.Lists.{split, or-no, and-yes, count-le, count-none, count-without, count-keep, count-changed, All-without, All-keep, All-changed, All-map}
 use Rattle.rules.proofs.Waits.{waits-given, waits-swallowed, first-waits, found-waits, tree-waits, waits-tree, chained-waits, waits-chained}
 use Rattle.rules.proofs.Trees.{tree-passed, tree-ended, chained-ended}
-use Rattle.rules.proofs.Allowed.{Allowed, Fit, Innermost, allowed}
+use Rattle.rules.proofs.Allowed.{Allowed, Innermost, allowed}
 
 -- ---- the rows
 

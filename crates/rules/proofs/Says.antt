@@ -1,12 +1,12 @@
 -- An outcome says what its call said: its addresses, type and thread are those of the message's bytes, of the give up, of the replaced call.
-use Prim.Native.Nat.{ℕ, _≤_}
-use mathlib.Core.Path.{_≡_, refl, sym, ap, _∙_}
-use mathlib.Core.Bool.{Bool, true, false, not, _&&_, _||_, cond}
-use mathlib.Core.List.{List, [], _∷_}
+use Prim.Native.Nat.{ℕ}
+use mathlib.Core.Path.{_≡_, refl}
+use mathlib.Core.Bool.{true}
+use mathlib.Core.List.{List}
 use mathlib.Core.Option.{Option, none, some}
 use lib.Dec.{eqb, ltb}
 use borrow.Author.Tests.{eqb-true}
-use Rattle.lists.specs.Lists.{checks, someOf, first}
+use Rattle.lists.specs.Lists.{someOf, first}
 use Rattle.tapa.specs.Address.{handlerOf}
 use Rattle.tapa.specs.Codes.{response, eventHandler}
 use Rattle.tapa.specs.declared.Refusal.the-variants.{BufferTooSmall}
@@ -22,7 +22,7 @@ use Rattle.places.specs.Places.{openOn, owesExactly, standsIn}
 use Rattle.rules.specs.View.{View}
 use Rattle.rules.specs.declared.Outcome.{Outcome}
 use Rattle.rules.specs.declared.Outcome.the-variants.{Passed, Answered, Swallowed, Event, Turned, Given, Reset, Refused}
-use Rattle.rules.specs.Judge.{answerable, replyTests, late, reply, judgeResponse, isAddEvent, judgeEvent, rules, judgeCommand, commonTests, judgeKind, judgeRead, judgeMessage, yields, judgeGiveUp, judgeReplaced, Call, message, giveUp, replaced, judge}
+use Rattle.rules.specs.Judge.{answerable, replyTests, late, reply, judgeResponse, isAddEvent, rules, judgeCommand, commonTests, judgeKind, judgeRead, judgeMessage, yields, judgeGiveUp, judgeReplaced, Call, message, giveUp, replaced, judge}
 use Rattle.rules.proofs.Lists.{split, checks-are, first-yes}
 use Rattle.rules.proofs.Waits.{open-thread}
 

@@ -1,13 +1,13 @@
 -- What `judge` decides, one law for each way that a call can go; and what an outcome does to places that were found by their number.
 use Prim.Native.Nat.{ℕ, _≤_, _<_}
-use mathlib.Core.Path.{_≡_, refl, sym, ap, _∙_}
-use mathlib.Core.Bool.{Bool, true, false, not, _||_, _&&_, cond}
-use mathlib.Core.List.{List, [], _∷_}
-use mathlib.Core.Option.{Option, none, some}
-use lib.Dec.{eqb, leb, ltb}
+use mathlib.Core.Path.{_≡_, refl, sym, _∙_}
+use mathlib.Core.Bool.{true, false, not, _&&_}
+use mathlib.Core.List.{List}
+use mathlib.Core.Option.{none, some}
+use lib.Dec.{eqb, leb}
 use lib.ListN.{length}
 use borrow.Author.Tests.{lt-ltb, le-ltb, eq-eqb, ne-eqb}
-use Rattle.lists.specs.declared.Found.the-variants.{At, Nothing}
+use Rattle.lists.specs.declared.Found.the-variants.{At}
 use Rattle.lists.specs.Lists.{someOf, first, without, changed, find, withoutAt, changedAt}
 use Rattle.tapa.specs.Address.{categoryOf, handlerOf}
 use Rattle.tapa.specs.Codes.{invalidDestination, handlerError, handlerBusy, insufficientResources, mustBeOpened, unsupportedOperation, response, openHandler}
@@ -21,13 +21,12 @@ use Rattle.message.specs.declared.Coded.the-variants.{Code, Missing}
 use Rattle.message.specs.Message.{readOf, partOf, codeOf}
 use Rattle.table.specs.Table.{listed, openedAt}
 use Rattle.places.specs.declared.Place.{Place}
-use Rattle.places.specs.Places.{openOn, asksExactly, owesExactly, standsIn, owing}
+use Rattle.places.specs.Places.{openOn, asksExactly, owesExactly, standsIn}
 use Rattle.places.proofs.Walks.{end-found, change-found}
 use Rattle.rules.specs.View.{View}
-use Rattle.rules.specs.declared.Outcome.{Outcome}
-use Rattle.rules.specs.declared.Outcome.the-variants.{Passed, Answered, Swallowed, Event, Turned, Given, Reset, Refused}
+use Rattle.rules.specs.declared.Outcome.the-variants.{Passed, Answered, Swallowed, Given, Reset, Refused}
 use Rattle.rules.specs.Judge.{late, reply, judgeResponse, isAddEvent, judgeEvent, mayAsk, busy, turned, judgeCommand, judgeKind, judgeRead, judgeMessage, yields, judgeGiveUp, judgeReplaced}
-use Rattle.rules.proofs.Lists.{first-yes, first-strong, Strong}
+use Rattle.rules.proofs.Lists.{first-yes, first-strong}
 use Rattle.rules.proofs.Waits.{exact-on}
 
 -- ---- a message: the common checks

@@ -1,5 +1,5 @@
 -- The page's session, a wrong turning, and the sums at the desk C5 and C11, computed by the definitions.
-use Prim.Native.Nat.{ℕ, _≤_, _<_}
+use Prim.Native.Nat.{ℕ, _≤_}
 use mathlib.Core.Path.{_≡_, refl}
 use mathlib.Core.Bool.{Bool, true, false}
 use mathlib.Core.List.{List, [], _∷_}
@@ -14,12 +14,11 @@ use Rattle.message.specs.declared.Reading.the-variants.{Message}
 use Rattle.message.specs.Message.{readOf, partOf, codeOf, messageOf, responseOf}
 use Rattle.table.specs.declared.Row.{Row}
 use Rattle.table.specs.Table.{listed}
-use Rattle.places.specs.declared.Place.{Place}
 use Rattle.places.specs.Places.{waits, owings}
 use Rattle.rules.specs.View.{View, fresh}
 use Rattle.rules.specs.declared.Outcome.{Outcome}
 use Rattle.rules.specs.declared.Outcome.the-variants.{Passed, Answered, Given, Turned, Refused}
-use Rattle.rules.specs.Judge.{late, reply, judgeResponse, busy, judgeCommand, judgeKind, judgeRead, judgeMessage, yields, judgeGiveUp, judgeReplaced, Call, message, giveUp, judge}
+use Rattle.rules.specs.Judge.{late, reply, judgeResponse, busy, judgeCommand, judgeKind, judgeRead, judgeMessage, yields, judgeGiveUp, Call, message, giveUp, judge}
 use Rattle.rules.specs.Apply.{place, reopened, applied, written}
 use Rattle.rules.proofs.Steps.{message-thread}
 

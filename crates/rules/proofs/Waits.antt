@@ -1,11 +1,11 @@
 -- The waits of a list of places after each kind of change; and that the tree and the chain of a thread are told by the waits alone.
-use Prim.Native.Nat.{ℕ, _≤_}
-use mathlib.Core.Path.{_≡_, refl, sym, ap, _∙_}
-use mathlib.Core.Bool.{Bool, true, false, not, _||_, _&&_, cond}
+use Prim.Native.Nat.{ℕ}
+use mathlib.Core.Path.{_≡_, sym, ap, _∙_}
+use mathlib.Core.Bool.{Bool, true, _||_, _&&_}
 use mathlib.Core.List.{List, [], _∷_}
-use mathlib.Core.Option.{Option, none, some}
+use mathlib.Core.Option.{Option}
 use lib.Dec.{eqb}
-use Rattle.lists.specs.Lists.{someOf, first, without, changed}
+use Rattle.lists.specs.Lists.{first, without, changed}
 use Rattle.tapa.specs.Address.{handlerOf}
 use Rattle.places.specs.declared.Place.{Place}
 use Rattle.places.specs.Places.{isOpen, waits, onThread, openOn, asksExactly, owesExactly, asks, owing}
