@@ -1,13 +1,13 @@
 -- What the view was like where a call had an outcome. Every theorem about a step is drawn from here, and not from the text of `judge`.
 use Prim.Native.Nat.{ℕ, _≤_, _<_}
-use mathlib.Core.Path.{_≡_, refl, sym, ap, _∙_}
-use mathlib.Core.Bool.{Bool, true, false, not, _||_, _&&_, cond}
+use mathlib.Core.Path.{_≡_, refl}
+use mathlib.Core.Bool.{true, false, not}
 use mathlib.Core.List.{List, [], _∷_}
 use mathlib.Core.Option.{Option, none, some}
-use lib.Dec.{eqb, leb, ltb}
+use lib.Dec.{eqb, ltb}
 use lib.ListN.{length}
 use borrow.Author.Tests.{not-false, ltb-false, leb-false, eqb-true, eq-eqb}
-use Rattle.lists.specs.Lists.{checks, someOf, first}
+use Rattle.lists.specs.Lists.{someOf, first}
 use Rattle.tapa.specs.Address.{handlerOf}
 use Rattle.tapa.specs.Codes.{response}
 use Rattle.tapa.specs.declared.Refusal.the-variants.{NotInTable, StandsInAWait}
@@ -17,7 +17,6 @@ use Rattle.message.specs.declared.Reading.the-variants.{Message, Refused as Unr
 use Rattle.message.specs.declared.Coded.{Coded}
 use Rattle.message.specs.declared.Coded.the-variants.{Code, Missing}
 use Rattle.message.specs.Message.{readOf, partOf, codeOf}
-use Rattle.table.specs.declared.Row.{Row}
 use Rattle.table.specs.Table.{listed, openedAt}
 use Rattle.tapa.specs.Codes.{eventHandler}
 use Rattle.places.specs.declared.Place.{Place}

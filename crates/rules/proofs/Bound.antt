@@ -1,14 +1,14 @@
 -- How many places there can be: one a single handler and eight a multi handler, so 44 at the most, and rule f is never met.
 use Prim.Native.Nat.{ℕ, zero, suc, _+_, _*_, _≤_, _<_}
-use mathlib.Core.Path.{_≡_, refl, sym, ap, _∙_}
-use mathlib.Core.Bool.{Bool, true, false, not, _||_, _&&_, cond, or-true}
+use mathlib.Core.Path.{_≡_, refl, sym, ap}
+use mathlib.Core.Bool.{Bool, true, false, cond, or-true}
 use mathlib.Core.List.{List, [], _∷_, _++_}
 use native.Mathlib.Nat.{not-suc-le-zero}
 use native.Mathlib.Omega.{arith}
 use lib.Dec.{eqb, leb}
 use lib.ListN.{length, take, length-append}
 use borrow.Author.Tests.{eqb-true, eqb-false, eq-eqb, lt-leb}
-use Rattle.lists.specs.Lists.{checks, count, someOf, All}
+use Rattle.lists.specs.Lists.{checks, count, All}
 use Rattle.tapa.specs.Address.{handlerOf, multi}
 use Rattle.tapa.specs.Codes.{insufficientResources}
 use Rattle.message.specs.declared.Head.{Head}

@@ -1,30 +1,31 @@
 -- The law is kept: an accepted table stays proper, and the conduct holds in the fresh view and after every outcome that `judge` can give.
-use Prim.Native.Nat.{ℕ, _+_, _≤_}
-use mathlib.Core.Path.{_≡_, refl, sym, ap, _∙_}
-use mathlib.Core.Bool.{Bool, true, false, not, _||_, _&&_, cond}
+use Prim.Native.Nat.{ℕ, _≤_}
+use mathlib.Core.Path.{_≡_, refl, _∙_}
+use mathlib.Core.Bool.{Bool, true, false, not, _||_, _&&_}
 use mathlib.Core.List.{List, [], _∷_}
 use mathlib.Core.Option.{Option, none, some}
 use native.Mathlib.Omega.{arith}
 use lib.Dec.{eqb}
-use lib.ListN.{length}
 use borrow.Author.Tests.{eqb-true}
 use Rattle.lists.specs.Lists.{count, someOf, keep, first, without, changed, All}
 use Rattle.tapa.specs.Address.{categoryOf, handlerOf, multi}
 use Rattle.tapa.specs.Codes.{done, openHandler, closeHandler}
 use Rattle.table.specs.declared.Row.{Row}
-use Rattle.table.specs.Table.{isAt, listed, marked, setOpened, shaped, isMulti, Proper}
+use Rattle.table.specs.Table.{listed, setOpened, Proper}
 use Rattle.places.specs.declared.Place.{Place}
 use Rattle.places.specs.Places.{waits, onThread, openOn, asksExactly, owesExactly, asks, standsOn, onSlot, notOwedBy, owing}
+use Rattle.table.proofs.Marks.{set-proper, set-listed}
+use Rattle.places.proofs.Two.{waits-stay}
 use Rattle.rules.specs.View.{View, fresh}
 use Rattle.rules.specs.declared.Outcome.{Outcome}
 use Rattle.rules.specs.declared.Outcome.the-variants.{Passed, Answered, Swallowed, Event, Turned, Given, Reset, Refused}
 use Rattle.rules.specs.Judge.{busy, Call, judge}
-use Rattle.rules.specs.Apply.{place, reopened, rowsAfter, placesAfter, applied}
+use Rattle.rules.specs.Apply.{place, reopened, rowsAfter, applied}
 use Rattle.rules.specs.Conduct.{Placed, Tree, Chained, Conduct}
-use Rattle.rules.proofs.Lists.{split, or-no, and-yes, count-le, count-none, count-without, count-keep, count-changed, some-changed, length-changed, All-without, All-keep, All-changed, All-map}
-use Rattle.rules.proofs.Waits.{waits-given, waits-swallowed, waits-reset, first-waits, found-waits, tree-waits, waits-tree, chained-waits, waits-chained}
+use Rattle.rules.proofs.Lists.{split, or-no, and-yes, count-le, count-none, count-without, count-keep, count-changed, All-without, All-keep, All-changed, All-map}
+use Rattle.rules.proofs.Waits.{waits-given, waits-swallowed, first-waits, found-waits, tree-waits, waits-tree, chained-waits, waits-chained}
 use Rattle.rules.proofs.Trees.{tree-passed, tree-ended, chained-ended}
-use Rattle.rules.proofs.Allowed.{Allowed, Fit, Innermost, allowed}
+use Rattle.rules.proofs.Allowed.{Allowed, Innermost, allowed}
 
 -- ---- the rows
 
@@ -47,24 +48,12 @@ rows-by P v p f (Given asker asked t) = p
 rows-by P v p f (Reset h) = f h false
 rows-by P v p f (Refused r) = p
 
-proper-set : (h : ℕ) (b : Bool) (rows : List Row) → Proper rows → Proper (setOpened h b rows)
-proper-set h b rows p = record {
-  some = rw (length-changed (marked b) (isAt h) rows) (p .some);
-  few = rw (length-changed (marked b) (isAt h) rows) (p .few);
-  shapes = All-changed (λ (r : Row). shaped (r .address) ≡ true) (marked b) (isAt h) (λ r s. s) rows (p .shapes);
-  once = λ a. rw (count-changed (marked b) (isAt a) (isAt h) (λ r. refl) rows) (p .once a);
-  multis = rw (count-changed (marked b) isMulti (isAt h) (λ r. refl) rows) (p .multis);
-}
-
 pub proper-kept : (v : View) (o : Outcome) → Proper (v .rows) → Proper (applied o v .rows)
-proper-kept v o p = rows-by Proper v p (λ h b. proper-set h b (v .rows) p) o
-
-listed-set : (a h : ℕ) (b : Bool) (rows : List Row) → listed a (setOpened h b rows) ≡ listed a rows
-listed-set a h b rows = some-changed (marked b) (isAt a) (isAt h) (λ r. refl) rows
+proper-kept v o p = rows-by Proper v p (λ h b. set-proper h b (v .rows) p) o
 
 -- a handler is in the table after an outcome as before it
 pub listed-kept : (a : ℕ) (v : View) (o : Outcome) → listed a (applied o v .rows) ≡ listed a (v .rows)
-listed-kept a v o = rows-by (λ (rows : List Row). listed a rows ≡ listed a (v .rows)) v refl (λ h b. listed-set a h b (v .rows)) o
+listed-kept a v o = rows-by (λ (rows : List Row). listed a rows ≡ listed a (v .rows)) v refl (λ h b. set-listed h b a (v .rows)) o
 
 placed-rows : (v : View) (o : Outcome) (l : List Place) → All (Placed (v .rows)) l → All (Placed (applied o v .rows)) l
 placed-rows v o l a =
@@ -167,8 +156,8 @@ conduct-kept v (Given asker asked t) c i = record {
 }
 conduct-kept v (Reset h) c f = record {
   once = λ a u. omega (arith, c .once a u, count-keep (onSlot a u) (notOwedBy h) (v .places));
-  trees = λ u. same-tree u (v .places) (keep (notOwedBy h) (v .places)) (waits-reset h (v .places)) (c .trees u);
-  chained = same-chain (v .places) (keep (notOwedBy h) (v .places)) (waits-reset h (v .places)) (c .chained);
+  trees = λ u. same-tree u (v .places) (keep (notOwedBy h) (v .places)) (waits-stay h (v .places)) (c .trees u);
+  chained = same-chain (v .places) (keep (notOwedBy h) (v .places)) (waits-stay h (v .places)) (c .chained);
   placed = placed-rows v (Reset h) (keep (notOwedBy h) (v .places)) (All-keep (Placed (v .rows)) (notOwedBy h) (v .places) (c .placed));
 }
 conduct-kept v (Refused r) c f = c

@@ -1,7 +1,11 @@
 pub mod Lists
 pub mod Waits
 pub mod Allowed
+pub mod Says
 pub mod Trees
 pub mod Kept
 pub mod Bound
 pub mod Words
+pub mod Steps
+pub mod After
+pub mod Sums

@@ -1,12 +1,12 @@
 -- Laws of the tests and counts of lists, over any elements.
-use Prim.Native.Nat.{ℕ, zero, suc, _+_, _≤_, _<_}
-use mathlib.Core.Path.{_≡_, refl, sym, ap, _∙_}
-use mathlib.Core.Bool.{Bool, true, false, not, _||_, _&&_, cond, or-true}
-use mathlib.Core.List.{List, [], _∷_, _++_, map}
-use mathlib.Core.Option.{Option, none, some}
+use Prim.Native.Nat.{ℕ, suc, _+_, _≤_}
+use mathlib.Core.Path.{_≡_, refl, sym}
+use mathlib.Core.Bool.{Bool, true, false, not, _||_, _&&_, or-true}
+use mathlib.Core.List.{List, [], _∷_, _++_}
+use mathlib.Core.Option.{some}
 use native.Mathlib.Omega.{arith}
 use lib.Dec.{eqb}
-use lib.ListN.{length, length-append}
+use lib.ListN.{length}
 use borrow.Author.Tests.{eqb-true, eqb-false, eq-eqb, ne-eqb}
 use Rattle.lists.specs.Lists.{one, checks, count, someOf, keep, first, without, changed, All}
 
@@ -35,12 +35,6 @@ and-yes false b e = clash false e refl
 pub or-left : (a b : Bool) → (a || b) ≡ true → b ≡ false → a ≡ true
 or-left true b e n = refl
 or-left false b e n = clash b e n
-
--- two tests that imply one another
-pub both-ways : (a b : Bool) → (a ≡ true → b ≡ true) → (b ≡ true → a ≡ true) → a ≡ b
-both-ways true b f g = sym (f refl)
-both-ways false true f g = g refl
-both-ways false false f g = refl
 
 pub eqb-same : (n : ℕ) → eqb n n ≡ true
 eqb-same n = eq-eqb n n refl
@@ -75,6 +69,15 @@ module _ {A : Type 0} where
       let ih = count-le q r f l in
       split (q x) (λ e. rw (e, f x e) (omega arith)) (λ e. rw e (omega arith))
 
+  -- two tests that never pass together
+  pub count-apart : (q r s : A → Bool) → ((x : A) → q x ≡ true → s x ≡ true) → ((x : A) → r x ≡ true → (q x ≡ false) × (s x ≡ true)) → (l : List A)
+      → count q l + count r l ≤ count s l
+  count-apart q r s f g [] = omega arith
+  count-apart q r s f g (x ∷ l) =
+      let ih = count-apart q r s f g l in
+      split (r x) (λ e. rw (e, g x e .0, g x e .1) (omega arith))
+      (λ e. rw e (split (q x) (λ b. rw (b, f x b) (omega arith)) (λ b. rw b (omega arith))))
+
   pub count-none : (q : A → Bool) (l : List A) → someOf q l ≡ false → count q l ≡ 0
   count-none q [] e = refl
   count-none q (x ∷ l) e = let p = or-no (q x) (someOf q l) e in rw (p .0) (omega (arith, count-none q l (p .1)))
@@ -100,15 +103,6 @@ module _ {A : Type 0} where
   some-changed f q r s [] = refl
   some-changed f q r s (x ∷ l) = split (r x) (λ e. rw (e, s x)) (λ e. rw (e, some-changed f q r s l))
 
-  pub length-changed : (f : A → A) (r : A → Bool) (l : List A) → length (changed f r l) ≡ length l
-  length-changed f r [] = refl
-  length-changed f r (x ∷ l) = split (r x) (λ e. rw e) (λ e. rw (e, length-changed f r l))
-
-  -- those that pass and those that do not are all
-  pub count-both : (q : A → Bool) (l : List A) → length (keep q l) + length (keep (λ x. not (q x)) l) ≡ length l
-  count-both q [] = omega arith
-  count-both q (x ∷ l) = split (q x) (λ e. rw e (omega (arith, count-both q l))) (λ e. rw e (omega (arith, count-both q l)))
-
   -- the first that passes, taken out
   pub count-first : (q r : A → Bool) (l : List A) (x : A) → first r l ≡ some x → count q l ≡ one (q x) + count q (without r l)
   count-first q r [] x e = differ (cc)
@@ -125,14 +119,6 @@ module _ {A : Type 0} where
 
   -- ---- what is kept
 
-  pub keep-true : (l : List A) → keep (λ x. true) l ≡ l
-  keep-true [] = refl
-  keep-true (x ∷ l) = rw (keep-true l)
-
-  pub keep-false : (l : List A) → keep (λ x. false) l ≡ []
-  keep-false [] = refl
-  keep-false (x ∷ l) = keep-false l
-
   pub keep-all : (q : A → Bool) (l : List A) → count q l ≡ 0 → keep (λ x. not (q x)) l ≡ l
   keep-all q [] e = refl
   keep-all q (x ∷ l) e = let z = count-zero q x l e in rw (z .0, keep-all q l (z .1))
@@ -148,43 +134,6 @@ module _ {A : Type 0} where
       split (q x) (λ p. let c′ : 1 + count q l ≤ 1 = rw p at c in rw (p, keep-all q l (omega arith)))
       (λ p. rw (p, without-same q l (omega arith)))
 
-  -- and it alone
-  pub keep-first : (q : A → Bool) (l : List A) (x : A) → first q l ≡ some x → count q l ≤ 1 → keep q l ≡ x ∷ []
-  keep-first q [] x e c = differ (cc)
-  keep-first q (y ∷ l) x e c =
-      split (q y)
-      (λ p.
-      let k : y ≡ x = (let g : some y ≡ some x = rw p at e in cc) in
-      let c′ : 1 + count q l ≤ 1 = rw p at c in
-      rw (p, keep-none q l (omega arith), k))
-      (λ p. rw p (keep-first q l x (rw p at e) (omega arith)))
-
-  -- what is taken out is kept, or is not: r's elements without it
-  pub keep-without : (q r : A → Bool) → ((x : A) → q x ≡ true → r x ≡ true) → (l : List A) → keep r (without q l) ≡ without q (keep r l)
-  keep-without q r f [] = refl
-  keep-without q r f (x ∷ l) =
-      split (q x) (λ p. rw (p, f x p, p))
-      (λ p. rw p (split (r x) (λ b. rw (b, p, keep-without q r f l)) (λ b. rw b (keep-without q r f l))))
-
-  pub keep-without-other : (q r : A → Bool) → ((x : A) → q x ≡ true → r x ≡ false) → (l : List A) → keep r (without q l) ≡ keep r l
-  keep-without-other q r f [] = refl
-  keep-without-other q r f (x ∷ l) =
-      split (q x) (λ p. rw (p, f x p)) (λ p. rw (p, keep-without-other q r f l))
-
-  -- what is changed leaves r's elements
-  pub keep-changed : (g : A → A) (q r : A → Bool) → ((x : A) → q x ≡ true → r x ≡ true) → ((x : A) → r (g x) ≡ false) → (l : List A)
-      → keep r (changed g q l) ≡ without q (keep r l)
-  keep-changed g q r f n [] = refl
-  keep-changed g q r f n (x ∷ l) =
-      split (q x) (λ p. rw (p, n x, f x p, p))
-      (λ p. rw p (split (r x) (λ b. rw (b, p, keep-changed g q r f n l)) (λ b. rw b (keep-changed g q r f n l))))
-
-  pub keep-keep : (q r : A → Bool) → ((x : A) → r x ≡ true → q x ≡ true) → (l : List A) → keep r (keep q l) ≡ keep r l
-  keep-keep q r f [] = refl
-  keep-keep q r f (x ∷ l) =
-      split (q x) (λ p. rw (p, keep-keep q r f l))
-      (λ p. let n : r x ≡ false = split (r x) (λ b. clash (q x) (f x b) p) (λ b. b) in rw (p, n, keep-keep q r f l))
-
   -- ---- every element
 
   pub All-without : (P : A → Type 0) (q : A → Bool) (l : List A) → All P l → All P (without q l)
@@ -199,12 +148,6 @@ module _ {A : Type 0} where
   All-changed P g q f [] a = tt
   All-changed P g q f (x ∷ l) a = split (q x) (λ p. rw p (f x (a .0), a .1)) (λ p. rw p (a .0, All-changed P g q f l (a .1)))
 
-  pub All-first : (P : A → Type 0) (q : A → Bool) (l : List A) (x : A) → first q l ≡ some x → All P l → P x
-  All-first P q [] x e a = differ (cc)
-  All-first P q (y ∷ l) x e a =
-      split (q y) (λ p. let k : y ≡ x = (let f : some y ≡ some x = rw p at e in cc) in rw k at (a .0))
-      (λ p. All-first P q l x (rw p at e) (a .1))
-
   pub All-map : (P Q : A → Type 0) → ((x : A) → P x → Q x) → (l : List A) → All P l → All Q l
   All-map P Q f [] a = tt
   All-map P Q f (x ∷ l) a = (f x (a .0), All-map P Q f l (a .1))
@@ -216,23 +159,12 @@ module _ {A : Type 0} where
   first-yes q (y ∷ l) x e =
       split (q y) (λ p. let k : y ≡ x = (let f : some y ≡ some x = rw p at e in cc) in rw k at p) (λ p. first-yes q l x (rw p at e))
 
-  pub first-some : (q : A → Bool) (l : List A) (x : A) → first q l ≡ some x → someOf q l ≡ true
-  first-some q [] x e = differ (cc)
-  first-some q (y ∷ l) x e = split (q y) (λ p. rw p) (λ p. rw p (first-some q l x (rw p at e)))
-
-  pub first-none : (q : A → Bool) (l : List A) → first q l ≡ none → someOf q l ≡ false
-  first-none q [] e = refl
-  first-none q (y ∷ l) e = split (q y) (λ p. let f : some y ≡ none = rw p at e in differ (cc)) (λ p. rw p (first-none q l (rw p at e)))
-
-  pub none-first : (q : A → Bool) (l : List A) → someOf q l ≡ false → first q l ≡ none
-  none-first q [] e = refl
-  none-first q (y ∷ l) e = let f = or-no (q y) (someOf q l) e in rw (f .0) (none-first q l (f .1))
-
-  pub first-keep : (q r : A → Bool) → ((x : A) → q x ≡ true → r x ≡ true) → (l : List A) → first q (keep r l) ≡ first q l
-  first-keep q r f [] = refl
-  first-keep q r f (x ∷ l) =
-      split (r x) (λ p. rw (p, first-keep q r f l))
-      (λ p. let n : q x ≡ false = split (q x) (λ b. clash (r x) (f x b) p) (λ b. b) in rw (p, n, first-keep q r f l))
+  -- what is found first makes any test pass that it meets
+  pub first-meets : (q r : A → Bool) (l : List A) (x : A) → first r l ≡ some x → q x ≡ true → someOf q l ≡ true
+  first-meets q r [] x e p = differ (cc)
+  first-meets q r (y ∷ l) x e p =
+      split (r y) (λ b. let k : y ≡ x = (let f : some y ≡ some x = rw b at e in cc) in let m : q y ≡ true = rw k p in rw m)
+      (λ b. rw (first-meets q r l x (rw b at e) p, or-true))
 
   -- the first to pass a weaker test, if it passes the stronger one, is the first to pass that
   pub record Strong (q r : A → Bool) (l : List A) (x : A) : Type 0 where
@@ -265,28 +197,9 @@ module _ {A : Type 0} where
   some-ext q r f [] = refl
   some-ext q r f (x ∷ l) = rw (f x, some-ext q r f l)
 
-  pub some-or : (q r : A → Bool) (l : List A) → someOf (λ x. q x || r x) l ≡ (someOf q l || someOf r l)
-  some-or q r [] = refl
-  some-or q r (x ∷ l) =
-      split (q x) (λ p. rw p)
-      (λ p. rw p (split (r x) (λ b. rw (b, or-true)) (λ b. rw b (some-or q r l))))
-
-  pub some-keep : (q r : A → Bool) → ((x : A) → q x ≡ true → r x ≡ true) → (l : List A) → someOf q (keep r l) ≡ someOf q l
-  some-keep q r f [] = refl
-  some-keep q r f (x ∷ l) =
-      split (r x) (λ p. rw (p, some-keep q r f l))
-      (λ p. let n : q x ≡ false = split (q x) (λ b. clash (r x) (f x b) p) (λ b. b) in rw (p, n, some-keep q r f l))
-
   pub some-kept : (q r : A → Bool) (l : List A) → someOf q (keep r l) ≡ someOf (λ x. r x && q x) l
   some-kept q r [] = refl
   some-kept q r (x ∷ l) = split (r x) (λ p. rw (p, some-kept q r l)) (λ p. rw (p, some-kept q r l))
-
-  -- some element passes among those that are kept, or among the others
-  pub some-parts : (q r : A → Bool) (l : List A) → someOf q l ≡ (someOf q (keep r l) || someOf q (keep (λ x. not (r x)) l))
-  some-parts q r [] = refl
-  some-parts q r (x ∷ l) =
-      split (q x) (λ p. split (r x) (λ b. rw (b, p)) (λ b. rw (b, p, or-true)))
-      (λ p. split (r x) (λ b. rw (b, p) (some-parts q r l)) (λ b. rw (b, p) (some-parts q r l)))
 
   pub keep-nothing : (q : A → Bool) (l : List A) → keep q l ≡ [] → someOf q l ≡ false
   keep-nothing q [] e = refl
@@ -306,13 +219,3 @@ module _ {A : Type 0} where
       split (r y)
       (λ p. let k : y ≡ x = (let f : some y ≡ some x = rw p at e in cc) in let m : q y ≡ false = rw k n in rw (p, m))
       (λ p. rw (p, some-without q r l x (rw p at e) n))
-
--- ---- a list's image
-module _ {A B : Type 0} (f : A → B) where
-  pub map-keep : (q : B → Bool) (l : List A) → map f (keep (λ x. q (f x)) l) ≡ keep q (map f l)
-  map-keep q [] = refl
-  map-keep q (x ∷ l) = split (q (f x)) (λ p. rw (p, map-keep q l)) (λ p. rw (p, map-keep q l))
-
-  pub count-map : (q : B → Bool) (l : List A) → count (λ x. q (f x)) l ≡ count q (map f l)
-  count-map q [] = refl
-  count-map q (x ∷ l) = omega (arith, count-map q l)

@@ -1,18 +1,18 @@
 -- A thread's tree and chain, and that a passed command and an ended wait keep them.
-use Prim.Native.Nat.{ℕ, _≤_}
+use Prim.Native.Nat.{ℕ}
 use mathlib.Core.Path.{_≡_, refl, sym, ap, _∙_}
-use mathlib.Core.Bool.{Bool, true, false, not, _||_, _&&_, cond, or-true}
+use mathlib.Core.Bool.{Bool, true, false, _&&_, cond, or-true}
 use mathlib.Core.List.{List, [], _∷_}
-use mathlib.Core.Option.{Option, none, some}
+use mathlib.Core.Option.{Option, some}
 use lib.Dec.{eqb}
-use borrow.Author.Tests.{eqb-true, eqb-false, ne-eqb, eq-eqb}
+use borrow.Author.Tests.{eqb-true, eq-eqb}
 use Rattle.lists.specs.Lists.{someOf, first, without}
 use Rattle.tapa.specs.Address.{categoryOf, handlerOf}
 use Rattle.places.specs.declared.Place.{Place}
-use Rattle.places.specs.Places.{isOpen, onThread, openOn, asksExactly, asks, stands, standsOn}
+use Rattle.places.specs.Places.{openOn, asksExactly, asks, stands, standsOn}
 use Rattle.rules.specs.Judge.{allows, mayAsk}
 use Rattle.rules.specs.Conduct.{grownIn, Grown, Tree, Chained}
-use Rattle.rules.proofs.Lists.{split, clash, or-no, and-yes, or-left, eqb-same, some-le, none-le, none-without, some-without, first-yes, first-strong, Strong}
+use Rattle.rules.proofs.Lists.{split, clash, or-no, and-yes, or-left, eqb-same, some-le, none-le, none-without, some-without, first-yes, first-strong}
 use Rattle.rules.proofs.Waits.{open-thread, exact-on}
 
 -- h is asked in a wait of thread t

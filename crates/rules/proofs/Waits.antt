@@ -1,18 +1,19 @@
--- The waits and the owings of a list of places, after each kind of change; and that the tree and the chain of a thread are told by the waits alone.
-use Prim.Native.Nat.{ℕ, _≤_}
-use mathlib.Core.Path.{_≡_, refl, sym, ap, _∙_}
-use mathlib.Core.Bool.{Bool, true, false, not, _||_, _&&_, cond}
+-- The waits of a list of places after each kind of change; and that the tree and the chain of a thread are told by the waits alone.
+use Prim.Native.Nat.{ℕ}
+use mathlib.Core.Path.{_≡_, sym, ap, _∙_}
+use mathlib.Core.Bool.{Bool, true, _||_, _&&_}
 use mathlib.Core.List.{List, [], _∷_}
-use mathlib.Core.Option.{Option, none, some}
+use mathlib.Core.Option.{Option}
 use lib.Dec.{eqb}
-use borrow.Author.Tests.{not-true}
-use Rattle.lists.specs.Lists.{count, someOf, keep, first, without, changed}
+use Rattle.lists.specs.Lists.{first, without, changed}
 use Rattle.tapa.specs.Address.{handlerOf}
 use Rattle.places.specs.declared.Place.{Place}
-use Rattle.places.specs.Places.{isOpen, isOwed, waits, owings, onThread, openOn, owedOn, asksExactly, owesExactly, asks, owedBy, notOwedBy, owing}
+use Rattle.places.specs.Places.{isOpen, waits, onThread, openOn, asksExactly, owesExactly, asks, owing}
+use Rattle.places.proofs.Parts.{some-within}
+use Rattle.places.proofs.Two.{asks-open, owes-owed, first-wait, waits-ended, waits-given as given, waits-kept}
 use Rattle.rules.specs.Judge.{allows, mayAsk}
 use Rattle.rules.specs.Conduct.{grownIn, Grown, Tree, Chained}
-use Rattle.rules.proofs.Lists.{split, clash, and-yes, keep-without, keep-without-other, keep-changed, keep-keep, some-keep, first-keep}
+use Rattle.rules.proofs.Lists.{split, clash, and-yes}
 
 -- ---- whose tests they are
 
@@ -25,57 +26,31 @@ open-thread t p q = and-yes (isOpen p) (onThread t p) q .1
 pub exact-on : (a t : ℕ) (p : Place) → asksExactly a t p ≡ true → openOn t p ≡ true
 exact-on a t p q = and-yes (openOn t p) (eqb (p .asked) a) q .0
 
-pub exact-open : (a t : ℕ) (p : Place) → asksExactly a t p ≡ true → isOpen p ≡ true
-exact-open a t p q = open-is t p (exact-on a t p q)
-
-pub owes-owed : (a t : ℕ) (p : Place) → owesExactly a t p ≡ true → isOwed p ≡ true
-owes-owed a t p q = and-yes (isOwed p) (onThread t p) (and-yes (owedOn t p) (eqb (p .asked) a) q .0) .0
-
-owes-shut : (a t : ℕ) (p : Place) → owesExactly a t p ≡ true → isOpen p ≡ false
-owes-shut a t p q = rw (owes-owed a t p q)
-
-exact-due : (a t : ℕ) (p : Place) → asksExactly a t p ≡ true → isOwed p ≡ false
-exact-due a t p q = not-true (isOwed p) (exact-open a t p q)
-
-open-stays : (h : ℕ) (p : Place) → isOpen p ≡ true → notOwedBy h p ≡ true
-open-stays h p q = rw (not-true (isOwed p) q)
-
 -- ---- the waits after a change
 
 pub waits-answered : (a t : ℕ) (l : List Place) → waits (without (asksExactly a t) l) ≡ without (asksExactly a t) (waits l)
-waits-answered a t l = keep-without (asksExactly a t) isOpen (exact-open a t) l
+waits-answered a t l = waits-ended (asksExactly a t) (asks-open a t) l
 
 pub waits-given : (a t : ℕ) (l : List Place) → waits (changed owing (asksExactly a t) l) ≡ without (asksExactly a t) (waits l)
-waits-given a t l = keep-changed owing (asksExactly a t) isOpen (exact-open a t) (λ x. refl) l
+waits-given a t l = given (asksExactly a t) (asks-open a t) l
 
 pub waits-swallowed : (a t : ℕ) (l : List Place) → waits (without (owesExactly a t) l) ≡ waits l
-waits-swallowed a t l = keep-without-other (owesExactly a t) isOpen (owes-shut a t) l
-
-pub waits-reset : (h : ℕ) (l : List Place) → waits (keep (notOwedBy h) l) ≡ waits l
-waits-reset h l = keep-keep (notOwedBy h) isOpen (open-stays h) l
-
--- ---- the owings after a change
-
-pub owings-answered : (a t : ℕ) (l : List Place) → owings (without (asksExactly a t) l) ≡ owings l
-owings-answered a t l = keep-without-other (asksExactly a t) isOwed (exact-due a t) l
-
-pub owings-swallowed : (a t : ℕ) (l : List Place) → owings (without (owesExactly a t) l) ≡ without (owesExactly a t) (owings l)
-owings-swallowed a t l = keep-without (owesExactly a t) isOwed (owes-owed a t) l
+waits-swallowed a t l = waits-kept (owesExactly a t) (owes-owed a t) l
 
 -- ---- the innermost wait is the first of the waits
 
 pub first-waits : (t : ℕ) (l : List Place) → first (openOn t) (waits l) ≡ first (openOn t) l
-first-waits t l = first-keep (openOn t) isOpen (open-is t) l
+first-waits t l = sym (first-wait (openOn t) (open-is t) l)
 
 pub found-waits : (a t : ℕ) (l : List Place) → first (asksExactly a t) (waits l) ≡ first (asksExactly a t) l
-found-waits a t l = first-keep (asksExactly a t) isOpen (exact-open a t) l
+found-waits a t l = sym (first-wait (asksExactly a t) (asks-open a t) l)
 
 -- ---- trees and chains are those of the waits
 
 grown-in-waits : (r t h : ℕ) (l : List Place) → grownIn r t h (waits l) ≡ grownIn r t h l
 grown-in-waits r t h l =
     ap (λ (b : Bool). eqb h r || b)
-    (some-keep (λ (p : Place). openOn t p && asks h p) isOpen (λ p q. open-is t p (and-yes (openOn t p) (asks h p) q .0)) l)
+    (sym (some-within (λ (p : Place). openOn t p && asks h p) isOpen (λ p q. open-is t p (and-yes (openOn t p) (asks h p) q .0)) l))
 
 grown-waits : (r t : ℕ) (l : List Place) → Grown r t l → Grown r t (waits l)
 grown-waits r t [] g = tt

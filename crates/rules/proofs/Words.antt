@@ -1,23 +1,22 @@
 -- The tests of the rules are the page's sentences, and the conduct is the law in its words.
-use Prim.Native.Nat.{ℕ, _+_, _≤_}
+use Prim.Native.Nat.{ℕ, _≤_}
 use mathlib.Core.Path.{_≡_, refl, sym, ap, _∙_}
-use mathlib.Core.Bool.{Bool, true, false, not, _||_, _&&_, cond, or-true, or-false, and-true}
+use mathlib.Core.Bool.{Bool, true, false, _||_, _&&_, or-true, or-false, and-true}
 use mathlib.Core.List.{List, [], _∷_}
-use mathlib.Core.Option.{Option, none, some}
 use native.Mathlib.Omega.{arith}
 use lib.Dec.{eqb}
-use borrow.Author.Tests.{eqb-true, not-true}
-use Rattle.lists.specs.Lists.{count, someOf, keep, first, All}
-use Rattle.tapa.specs.Address.{categoryOf, handlerOf, multi}
-use Rattle.table.specs.declared.Row.{Row}
+use borrow.Author.Tests.{eqb-true}
+use Rattle.lists.specs.Lists.{count, someOf}
+use Rattle.tapa.specs.Address.{handlerOf, multi}
 use Rattle.table.specs.Table.{listed}
 use Rattle.places.specs.declared.Place.{Place}
 use Rattle.places.specs.Places.{isOpen, isOwed, waits, owings, onThread, openOn, asks, standsOn, onSlot}
+use Rattle.places.proofs.Parts.{some-parts}
 use Rattle.rules.specs.View.{View}
 use Rattle.rules.specs.Judge.{mayAsk, busy}
 use Rattle.rules.specs.Conduct.{Placed, grownIn, Grown, Chained, Conduct}
-use Rattle.rules.specs.Words.{chainOf, ruleD, asksOn, ruleE, Line, askedBy, Chain, Worded}
-use Rattle.rules.proofs.Lists.{split, clash, or-no, and-yes, or-left, eqb-turn, count-le, count-none, none-le, some-ext, some-kept, some-parts, keep-nothing, All-map}
+use Rattle.rules.specs.Words.{chainOf, ruleD, asksOn, ruleE, Line, askedBy, Worded}
+use Rattle.rules.proofs.Lists.{split, and-yes, or-left, eqb-turn, count-le, count-none, none-le, some-ext, some-kept, keep-nothing, All-map}
 use Rattle.rules.proofs.Waits.{open-is, open-thread}
 use Rattle.rules.proofs.Trees.{askedOn, asked-on}
 
@@ -43,9 +42,9 @@ e-worded places asker h t =
     (λ p. rw p)
     (λ p. rw p (ap (λ (b : Bool). eqb h (handlerOf asker) || b) (split (multi h)
     (λ m.
-    rw (m, some-ext (onSlot h t) (asksOn h t) (λ x. rw m) places, some-parts (asksOn h t) isOwed places, none-asked places h t p) (or-false _))
+    rw (m, some-ext (onSlot h t) (asksOn h t) (λ x. rw m) places, some-parts isOwed (asksOn h t) places, none-asked places h t p) (or-false _))
     (λ m.
-    rw (m, some-ext (onSlot h t) (asks h) (λ x. rw (m, and-true)) places, some-parts (asks h) isOwed places) (turn (someOf (asks h) (owings places)) (someOf (asks h) (waits places)))))))
+    rw (m, some-ext (onSlot h t) (asks h) (λ x. rw (m, and-true)) places, some-parts isOwed (asks h) places) (turn (someOf (asks h) (owings places)) (someOf (asks h) (waits places)))))))
   where
     turn : (a b : Bool) → (a || b) ≡ (b || a || false)
     turn true true = refl

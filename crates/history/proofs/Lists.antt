@@ -1,0 +1,87 @@
+-- Laws of lists that the history needs: members, and elements that are changed or left out one by one.
+use Prim.Native.Nat.{_+_, _≤_}
+use mathlib.Core.Path.{_≡_, refl}
+use mathlib.Core.Logic.{_⊎_, inl, inr}
+use mathlib.Core.Bool.{Bool, true, not, cond}
+use mathlib.Core.List.{List, [], _∷_, _++_}
+use mathlib.Core.Option.{Option, none, some}
+use native.Mathlib.Omega.{arith}
+use lib.ListN.{length}
+use Rattle.lists.specs.Lists.{count, keep, changed, All, In}
+use Rattle.rules.proofs.Lists.{split, count-zero}
+
+module _ {A : Type 0} where
+  -- ---- members
+
+  pub in-either : (x : A) (l m : List A) → In x (l ++ m) → In x l ⊎ In x m
+  in-either x [] m i = inr i
+  in-either x (y ∷ l) m (inl e) = inl (inl e)
+  in-either x (y ∷ l) m (inr i) = elim (in-either x l m i) [ inl j ↦ inl (inr j) | inr j ↦ inr j ]
+
+  pub in-keep : (q : A → Bool) (x : A) (l : List A) → q x ≡ true → In x l → In x (keep q l)
+  in-keep q x [] p i = i
+  in-keep q x (y ∷ l) p (inl e) = let p′ : q y ≡ true = rw e p in rw p′ (inl e)
+  in-keep q x (y ∷ l) p (inr i) = split (q y) (λ b. rw b (inr (in-keep q x l p i))) (λ b. rw b (in-keep q x l p i))
+
+  pub in-kept : (q : A → Bool) (x : A) (l : List A) → In x (keep q l) → In x l × (q x ≡ true)
+  in-kept q x [] i = absurd i
+  in-kept q x (y ∷ l) i =
+      split (q y)
+      (λ p. let go : (y ≡ x) ⊎ In x (keep q l) → In x (y ∷ l) × (q x ≡ true) =
+      elim [ inl e ↦ (inl e, rw (← e) p) | inr j ↦ let r = in-kept q x l j in (inr (r .0), r .1) ] in go (rw p at i))
+      (λ p. let r = in-kept q x l (rw p at i) in (inr (r .0), r .1))
+
+  pub in-count : (q : A → Bool) (x : A) (l : List A) → q x ≡ true → In x l → 1 ≤ count q l
+  in-count q x [] p i = absurd i
+  in-count q x (y ∷ l) p (inl e) = let p′ : q y ≡ true = rw e p in rw p′ (omega arith)
+  in-count q x (y ∷ l) p (inr i) = omega (arith, in-count q x l p i)
+
+  pub in-one : (x y : A) → In x (y ∷ []) → y ≡ x
+  in-one x y (inl e) = e
+  in-one x y (inr i) = absurd i
+
+  pub in-all : (P : A → Type 0) (x : A) (l : List A) → All P l → In x l → P x
+  in-all P x [] a i = absurd i
+  in-all P x (y ∷ l) a (inl e) = rw e at (a .0)
+  in-all P x (y ∷ l) a (inr i) = in-all P x l (a .1) i
+
+  -- ---- lists of one
+
+  pub alone : (l : List A) → length l ≡ 1 → (x : A) × (l ≡ x ∷ [])
+  alone [] e = absurd (omega arith)
+  alone (x ∷ []) e = (x, refl)
+  alone (x ∷ y ∷ l) e = absurd (omega arith)
+
+  pub length-keep : (q : A → Bool) (l : List A) → length (keep q l) ≡ count q l
+  length-keep q [] = refl
+  length-keep q (x ∷ l) = split (q x) (λ p. rw p (omega (arith, length-keep q l))) (λ p. rw p (omega (arith, length-keep q l)))
+
+  -- ---- each element changed, or left out
+
+  abbrev pub put : Option A → List A → List A
+  put none l = l
+  put (some x) l = x ∷ l
+
+  abbrev pub collect : (A → Option A) → List A → List A
+  collect f [] = []
+  collect f (x ∷ l) = put (f x) (collect f l)
+
+  pub collect-all : (l : List A) → collect (λ x. some x) l ≡ l
+  collect-all [] = refl
+  collect-all (x ∷ l) = rw (collect-all l)
+
+  pub collect-keep : (q : A → Bool) (l : List A) → collect (λ x. cond (q x) none (some x)) l ≡ keep (λ x. not (q x)) l
+  collect-keep q [] = refl
+  collect-keep q (x ∷ l) = split (q x) (λ p. rw (p, collect-keep q l)) (λ p. rw (p, collect-keep q l))
+
+  -- a change that fits at most one
+  pub collect-changed : (g : A → A) (q : A → Bool) (l : List A) → count q l ≤ 1
+      → collect (λ x. cond (q x) (some (g x)) (some x)) l ≡ changed g q l
+  collect-changed g q [] c = refl
+  collect-changed g q (x ∷ l) c =
+      split (q x) (λ p. let c′ : 1 + count q l ≤ 1 = rw p at c in rw (p, untouched l (omega arith)))
+      (λ p. rw (p, collect-changed g q l (omega arith)))
+    where
+      untouched : (m : List A) → count q m ≡ 0 → collect (λ y. cond (q y) (some (g y)) (some y)) m ≡ m
+      untouched [] e = refl
+      untouched (y ∷ m) e = let z = count-zero q y m e in rw (z .0, untouched m (z .1))

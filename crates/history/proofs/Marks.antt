@@ -1,0 +1,179 @@
+-- A response that was not refused bears the mark of the command that it ends.
+use Prim.Native.Nat.{ℕ, _≤_, _<_}
+use mathlib.Core.Path.{_≡_, refl, sym, ap, _∙_}
+use mathlib.Core.Logic.{inl, inr}
+use mathlib.Core.Bool.{Bool, true, false, or-true}
+use mathlib.Core.List.{List, [], _∷_}
+use mathlib.Core.Option.{some}
+use native.Mathlib.Omega.{arith}
+use lib.Dec.{eqb}
+use lib.ListN.{length}
+use borrow.Author.Tests.{eq-eqb, lt-ltb}
+use Rattle.lists.specs.Lists.{count, In}
+use Rattle.table.specs.declared.Row.{Row}
+use Rattle.places.specs.declared.Place.{Place}
+use Rattle.places.specs.Places.{isOwed, onThread, asksExactly, owesExactly, asks, owedBy, owing}
+use Rattle.rules.specs.View.{View}
+use Rattle.rules.specs.declared.Outcome.{Outcome}
+use Rattle.rules.specs.declared.Outcome.the-variants.{Passed, Answered, Swallowed, Event, Turned, Given, Reset, Refused}
+use Rattle.rules.specs.Judge.{judge}
+use Rattle.rules.specs.Conduct.{Conduct}
+use Rattle.rules.proofs.Lists.{split, clash, and-yes, count-some, first-yes, first-meets}
+use Rattle.rules.proofs.Allowed.{Allowed, allowed}
+use Rattle.rules.proofs.After.{exact-once}
+use Rattle.history.specs.History.{Step, Entry, viewAfter, history, Sent, starts, sent, lives, livesOn, standing, meets, ends, ended, endsOne}
+use Rattle.history.specs.Marks.{addressed, isReply, fits, replacedSince, used, Marked, Honest, Bears}
+use Rattle.history.proofs.Lists.{in-either, in-keep, in-count, in-one, in-all}
+use Rattle.history.proofs.Told.{conduct-after, sent-before, older, stood, told, stands-as}
+use Rattle.history.proofs.Ends.{one-ended, stood-in}
+
+-- ---- the mark's address is that of the wait or of the owing
+
+-- a command stands with the address and the thread that it was sent with
+stands-addressed : (h : List Entry) (c : Sent) (a t : ℕ) (y : Place) → standing h c ≡ some y → addressed a t (c .command) ≡ true → addressed a t y ≡ true
+stands-addressed h c a t y e p = elim (stands-as h c y e) [ inl k ↦ rw k p | inr k ↦ rw k p ]
+
+open-exactly : (a t : ℕ) (y : Place) → addressed a t y ≡ true → isOwed y ≡ false → asksExactly a t y ≡ true
+open-exactly a t y p n = let z = and-yes (eqb (y .asked) a) (onThread t y) p in rw (n, z .0, z .1)
+
+owed-exactly : (a t : ℕ) (y : Place) → addressed a t y ≡ true → isOwed y ≡ true → owesExactly a t y ≡ true
+owed-exactly a t y p n = let z = and-yes (eqb (y .asked) a) (onThread t y) p in rw (n, z .0, z .1)
+
+module _ (mark : ℕ → ℕ) where
+  -- where a passed command has come to
+  data Status (h : List Entry) (c : Sent) : Type 0 where
+    under-way : (y : Place) → standing h c ≡ some y → Status h c
+    replied : used mark h (c .no) ≡ true → Status h c
+    gone : replacedSince h c ≡ true → Status h c
+
+  abbrev Every : List Entry → Type 0
+  Every h = (c : Sent) → In c (sent h) → Status h c
+
+  module _ (h : List Entry) (v : View) (l : Conduct v) (k : stood h (sent h) ≡ v .places) where
+    counts : (q : Place → Bool) (c : Sent) (y : Place) → In c (sent h) → standing h c ≡ some y → q y ≡ true → 1 ≤ count q (v .places)
+    counts q c y i e p = in-count q y (v .places) p (rw k at (stood-in h (sent h) c y i e))
+
+    -- a command that the outcome ends is the one that it ends
+    ended-is : (o : Outcome) → Allowed v o → endsOne o ≡ true → (c : Sent) (y : Place) → In c (sent h) → standing h c ≡ some y → ends o y ≡ true
+        → ended h o ≡ c ∷ []
+    ended-is o a z c y i e p =
+        let d = one-ended h v l k o a z in
+        let j : In c (ended h o) = in-keep (λ (x : Sent). meets (ends o) (standing h x)) c (sent h) (rw e p) i in
+        d .1 ∙ ap (λ (x : Sent). x ∷ []) (in-one c (d .0) (rw (d .1) at j))
+
+    -- the command that the mark names is open or owed, and it is what the response ends
+    bears-it : (o : Outcome) → Allowed v o → isReply o ≡ true → (c : Sent) (y : Place) → In c (sent h) → standing h c ≡ some y → fits o (c .command) ≡ true
+        → ended h o ≡ c ∷ []
+    bears-it (Passed asker asked kind t) a z c y i e f = clash false z refl
+    bears-it (Answered asked asker t code) a z c y i e f =
+        let p = stands-addressed h c asked t y e f in
+        let s = count-some (asksExactly asked t) (v .places) (first-meets (asksExactly asked t) (asksExactly asked t) (v .places) (a .it) (a .found) (first-yes (asksExactly asked t) (v .places) (a .it) (a .found))) in
+        split (isOwed y)
+        (λ b. absurd (omega (arith, exact-once v l asked t, s, counts (owesExactly asked t) c y i e (owed-exactly asked t y p b))))
+        (λ b. ended-is (Answered asked asker t code) a refl c y i e (open-exactly asked t y p b))
+    bears-it (Swallowed asked t) a z c y i e f =
+        let p = stands-addressed h c asked t y e f in
+        let s = count-some (owesExactly asked t) (v .places) (a .0) in
+        split (isOwed y)
+        (λ b. ended-is (Swallowed asked t) a refl c y i e (owed-exactly asked t y p b))
+        (λ b. absurd (omega (arith, exact-once v l asked t, s, counts (asksExactly asked t) c y i e (open-exactly asked t y p b))))
+    bears-it Event a z c y i e f = clash false z refl
+    bears-it (Turned asker asked t code) a z c y i e f = clash false z refl
+    bears-it (Given asker asked t) a z c y i e f = clash false z refl
+    bears-it (Reset x) a z c y i e f = clash false z refl
+    bears-it (Refused r) a z c y i e f = clash false z refl
+
+    bears : (o : Outcome) → Allowed v o → Every h → (isReply o ≡ true → Marked mark h o) → Bears mark h o
+    bears o a st m z = go (m z) (st (m z .of-it) (m z .passed-before))
+      where
+        go : (n : Marked mark h o) → Status h (n .of-it) → (c : Sent) × (ended h o ≡ c ∷ []) × (c .no ≡ mark (length h))
+        go n (under-way y e) = (n .of-it, bears-it o a z (n .of-it) y (n .passed-before) e (n .its-address), n .numbered)
+        go n (replied u) = clash (used mark h (mark (length h))) (rw (n .numbered) at u) (n .not-used)
+        go n (gone r) = clash (replacedSince h (n .of-it)) r (n .not-replaced)
+
+    -- ---- one entry on
+
+    module _ (s : Step) (c : Sent) (i : In c (sent h)) where
+      abbrev on : Outcome → List Entry
+      on o = record { step = s; outcome = o } ∷ h
+
+      number : c .no < length h
+      number = in-all (λ (x : Sent). x .no < length h) c (sent h) (sent-before h) i
+
+      -- a command ended by a reply is numbered by its mark
+      reply-used : (o : Outcome) → Bears mark h o → isReply o ≡ true → ended h o ≡ c ∷ [] → used mark (on o) (c .no) ≡ true
+      reply-used o b z e =
+          let d = b z in
+          let j : In c (ended h o) = rw e (inl refl) in
+          let same : d .0 ≡ c = in-one c (d .0) (rw (d .1) at j) in
+          let n : mark (length h) ≡ c .no = sym (d .2) ∙ ap (λ (x : Sent). x .no) same in
+          rw (z, eq-eqb (mark (length h)) (c .no) n)
+
+      module _ (y : Place) (e : standing h c ≡ some y) where
+        stays : (o : Outcome) → lives o y ≡ some y → Status (on o) c
+        stays o q = under-way y (older record { step = s; outcome = o } h c number ∙ ap (livesOn o) e ∙ q)
+
+        owed-on : (asker asked t : ℕ) → asksExactly asked t y ≡ true → Status (on (Given asker asked t)) c
+        owed-on asker asked t p =
+            under-way (owing y) (older record { step = s; outcome = Given asker asked t } h c number ∙ ap (livesOn (Given asker asked t)) e ∙ rw p)
+
+        same-asked : (a : ℕ) → asks a y ≡ true → asks a (c .command) ≡ true
+        same-asked a p = elim (stands-as h c y e) [ inl q ↦ rw (← q) p | inr q ↦ ap (asks a) (sym q) ∙ p ]
+
+        goes : (o : Outcome) → Allowed v o → Bears mark h o → Status (on o) c
+        goes (Passed asker asked kind t) a b = stays (Passed asker asked kind t) refl
+        goes (Answered asked asker t code) a b =
+            let o : Outcome = Answered asked asker t code in
+            split (asksExactly asked t y) (λ p. replied (reply-used o b refl (ended-is o a refl c y i e p))) (λ p. stays o (rw p))
+        goes (Swallowed asked t) a b =
+            let o : Outcome = Swallowed asked t in
+            split (owesExactly asked t y) (λ p. replied (reply-used o b refl (ended-is o a refl c y i e p))) (λ p. stays o (rw p))
+        goes Event a b = stays Event refl
+        goes (Turned asker asked t code) a b = stays (Turned asker asked t code) refl
+        goes (Given asker asked t) a b = split (asksExactly asked t y) (owed-on asker asked t) (λ p. stays (Given asker asked t) (rw p))
+        goes (Reset x) a b =
+            split (owedBy x y) (λ p. gone (rw (lt-ltb (c .no) (length h) number, same-asked x (and-yes (isOwed y) (asks x y) p .1)))) (λ p. stays (Reset x) (rw p))
+        goes (Refused r) a b = stays (Refused r) refl
+
+      next-status : (o : Outcome) → Allowed v o → Bears mark h o → Status h c → Status (on o) c
+      next-status o a b (under-way y e) = goes y e o a b
+      next-status o a b (replied u) = replied (rw (u, or-true))
+      next-status o a b (gone r) = gone (rw (r, or-true))
+
+    -- a command of the entry itself
+    new-status : (s : Step) (o : Outcome) (c : Sent) → In c (starts (length h) o) → Status (record { step = s; outcome = o } ∷ h) c
+    new-status s (Passed asker asked kind t) c (inl q) =
+        under-way (c .command) (rw (eq-eqb (c .no) (length h) (ap (λ (x : Sent). x .no) (sym q))))
+    new-status s (Passed asker asked kind t) c (inr j) = absurd j
+    new-status s (Answered asked asker t code) c j = absurd j
+    new-status s (Swallowed asked t) c j = absurd j
+    new-status s Event c j = absurd j
+    new-status s (Turned asker asked t code) c j = absurd j
+    new-status s (Given asker asked t) c j = absurd j
+    new-status s (Reset x) c j = absurd j
+    new-status s (Refused r) c j = absurd j
+
+    every-next : (s : Step) (o : Outcome) → Allowed v o → Bears mark h o → Every h → Every (record { step = s; outcome = o } ∷ h)
+    every-next s o a b st c i =
+        elim (in-either c (starts (length h) o) (sent h) i) [ inl j ↦ new-status s o c j | inr j ↦ next-status s c j o a b (st c j) ]
+
+  -- ---- a run
+
+  bears-next : (rows : List Row) (steps : List Step) (s : Step) → Every (history rows steps)
+      → (isReply (judge (viewAfter rows steps) (s .room) (s .call)) ≡ true → Marked mark (history rows steps) (judge (viewAfter rows steps) (s .room) (s .call)))
+      → Bears mark (history rows steps) (judge (viewAfter rows steps) (s .room) (s .call))
+  bears-next rows steps s st m =
+      let v = viewAfter rows steps in
+      bears (history rows steps) v (conduct-after rows steps) (told rows steps) (judge v (s .room) (s .call)) (allowed v (s .room) (s .call)) st m
+
+  every : (rows : List Row) (steps : List Step) → Honest mark (history rows steps) → Every (history rows steps)
+  every rows [] m c i = absurd i
+  every rows (s ∷ steps) m c i =
+      let v = viewAfter rows steps in
+      let st = every rows steps (m .1) in
+      every-next (history rows steps) v (conduct-after rows steps) (told rows steps) s (judge v (s .room) (s .call)) (allowed v (s .room) (s .call)) (bears-next rows steps s st (m .0)) st c i
+
+  -- the last entry of an honest history, if it is an answered or a swallowed response, bears the mark of the one command that it ends
+  pub marks : (rows : List Row) (steps : List Step) (s : Step) → Honest mark (history rows (s ∷ steps))
+      → Bears mark (history rows steps) (judge (viewAfter rows steps) (s .room) (s .call))
+  marks rows steps s m = bears-next rows steps s (every rows steps (m .1)) (m .0)

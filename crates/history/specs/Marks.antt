@@ -1,0 +1,81 @@
+-- Marks: 'each response bears a mark unseen by the router: the number of the earlier passed command it replies to'.
+use Prim.Native.Nat.{ℕ}
+use mathlib.Core.Path.{_≡_}
+use mathlib.Core.Bool.{Bool, true, false, _&&_, _||_}
+use mathlib.Core.List.{List, [], _∷_}
+use lib.Dec.{eqb, ltb}
+use lib.ListN.{length}
+use Rattle.lists.specs.Lists.{In}
+use Rattle.places.specs.declared.Place.{Place}
+use Rattle.places.specs.Places.{onThread, asks}
+use Rattle.rules.specs.declared.Outcome.{Outcome}
+use Rattle.rules.specs.declared.Outcome.the-variants.{Passed, Answered, Swallowed, Event, Turned, Given, Reset, Refused}
+use Rattle.history.specs.History.{Entry, Sent, sent, ended}
+
+-- exactly this address is asked on this thread, by a command that may be open, owed or done with
+abbrev pub addressed : ℕ → ℕ → Place → Bool
+addressed a t p = eqb (p .asked) a && onThread t p
+
+-- a response that was not refused
+abbrev pub isReply : Outcome → Bool
+isReply (Passed asker asked kind t) = false
+isReply (Answered asked asker t k) = true
+isReply (Swallowed asked t) = true
+isReply Event = false
+isReply (Turned asker asked t k) = false
+isReply (Given asker asked t) = false
+isReply (Reset h) = false
+isReply (Refused r) = false
+
+-- 'whose exact asked address and thread are the response's source and thread'
+abbrev pub fits : Outcome → Place → Bool
+fits (Passed asker asked kind t) p = false
+fits (Answered asked asker t k) p = addressed asked t p
+fits (Swallowed asked t) p = addressed asked t p
+fits Event p = false
+fits (Turned asker asked t k) p = false
+fits (Given asker asked t) p = false
+fits (Reset h) p = false
+fits (Refused r) p = false
+
+-- an accepted replaced call of the handler that a command asks
+abbrev pub replaces : Outcome → Place → Bool
+replaces (Passed asker asked kind t) p = false
+replaces (Answered asked asker t k) p = false
+replaces (Swallowed asked t) p = false
+replaces Event p = false
+replaces (Turned asker asked t k) p = false
+replaces (Given asker asked t) p = false
+replaces (Reset h) p = asks h p
+replaces (Refused r) p = false
+
+-- such a call stands after the command's own entry
+abbrev pub replacedSince : List Entry → Sent → Bool
+replacedSince [] c = false
+replacedSince (e ∷ h) c = ltb (c .no) (length h) && replaces (e .outcome) (c .command) || replacedSince h c
+
+-- `mark n` is what the response of the entry with the number n bears
+module _ (mark : ℕ → ℕ) where
+  -- the mark m stands on a response that was not refused
+  abbrev pub used : List Entry → ℕ → Bool
+  used [] m = false
+  used (e ∷ h) m = isReply (e .outcome) && eqb (mark (length h)) m || used h m
+
+  -- the premises, for the mark of the entry that comes after h
+  pub record Marked (h : List Entry) (o : Outcome) : Type 0 where
+    pub of-it : Sent
+    pub numbered : of-it .no ≡ mark (length h)
+    pub passed-before : In of-it (sent h)
+    pub its-address : fits o (of-it .command) ≡ true
+    -- 'No mark stands on two responses that were not refused'
+    pub not-used : used h (mark (length h)) ≡ false
+    -- 'after an accepted replaced call none stands for a command passed to that handler before it'
+    pub not-replaced : replacedSince h of-it ≡ false
+
+  abbrev pub Honest : List Entry → Type 0
+  Honest [] = Unit {0}
+  Honest (e ∷ h) = (isReply (e .outcome) ≡ true → Marked h (e .outcome)) × Honest h
+
+  -- 'an answered or swallowed response bears the mark of the wait or owing it ends'
+  abbrev pub Bears : List Entry → Outcome → Type 0
+  Bears h o = isReply o ≡ true → (c : Sent) × (ended h o ≡ c ∷ []) × (c .no ≡ mark (length h))

@@ -1,0 +1,153 @@
+-- An outcome says what its call said: its addresses, type and thread are those of the message's bytes, of the give up, of the replaced call.
+use Prim.Native.Nat.{ℕ}
+use mathlib.Core.Path.{_≡_, refl}
+use mathlib.Core.Bool.{true}
+use mathlib.Core.List.{List}
+use mathlib.Core.Option.{Option, none, some}
+use lib.Dec.{eqb, ltb}
+use borrow.Author.Tests.{eqb-true}
+use Rattle.lists.specs.Lists.{someOf, first}
+use Rattle.tapa.specs.Address.{handlerOf}
+use Rattle.tapa.specs.Codes.{response, eventHandler}
+use Rattle.tapa.specs.declared.Refusal.the-variants.{BufferTooSmall}
+use Rattle.message.specs.declared.Head.{Head}
+use Rattle.message.specs.declared.Reading.{Reading}
+use Rattle.message.specs.declared.Reading.the-variants.{Message, Refused as Unread}
+use Rattle.message.specs.declared.Coded.{Coded}
+use Rattle.message.specs.declared.Coded.the-variants.{Code, Missing}
+use Rattle.message.specs.Message.{readOf, partOf, codeOf}
+use Rattle.table.specs.Table.{listed, openedAt}
+use Rattle.places.specs.declared.Place.{Place}
+use Rattle.places.specs.Places.{openOn, owesExactly, standsIn}
+use Rattle.rules.specs.View.{View}
+use Rattle.rules.specs.declared.Outcome.{Outcome}
+use Rattle.rules.specs.declared.Outcome.the-variants.{Passed, Answered, Swallowed, Event, Turned, Given, Reset, Refused}
+use Rattle.rules.specs.Judge.{answerable, replyTests, late, reply, judgeResponse, isAddEvent, rules, judgeCommand, commonTests, judgeKind, judgeRead, judgeMessage, yields, judgeGiveUp, judgeReplaced, Call, message, giveUp, replaced, judge}
+use Rattle.rules.proofs.Lists.{split, checks-are, first-yes}
+use Rattle.rules.proofs.Waits.{open-thread}
+
+-- what a message with this head and this code can come to
+abbrev pub Spoken : Head → Coded → Outcome → Type 0
+Spoken h code (Passed asker asked kind t) = (h .source ≡ asker) × (h .destination ≡ asked) × (h .kind ≡ kind) × (h .thread ≡ t)
+Spoken h code (Answered asked asker t k) = (h .kind ≡ response) × (h .source ≡ asked) × (h .destination ≡ asker) × (h .thread ≡ t) × (code ≡ Code k)
+Spoken h code (Swallowed asked t) = (h .kind ≡ response) × (h .source ≡ asked) × (h .thread ≡ t)
+Spoken h code Event = isAddEvent h ≡ true
+Spoken h code (Turned asker asked t k) = (h .source ≡ asker) × (h .destination ≡ asked) × (h .thread ≡ t)
+Spoken h code (Given asker asked t) = ⊥
+Spoken h code (Reset a) = ⊥
+Spoken h code (Refused r) = Unit {0}
+
+-- what bytes that are no message can come to
+abbrev pub OnlyRefused : Outcome → Type 0
+OnlyRefused (Passed asker asked kind t) = ⊥
+OnlyRefused (Answered asked asker t k) = ⊥
+OnlyRefused (Swallowed asked t) = ⊥
+OnlyRefused Event = ⊥
+OnlyRefused (Turned asker asked t k) = ⊥
+OnlyRefused (Given asker asked t) = ⊥
+OnlyRefused (Reset a) = ⊥
+OnlyRefused (Refused r) = Unit {0}
+
+abbrev pub ReadSays : Reading → Coded → Outcome → Type 0
+ReadSays (Message h) code o = Spoken h code o
+ReadSays (Unread r) code o = OnlyRefused o
+
+-- what a give up of thread t can come to
+abbrev pub GivesUp : ℕ → Outcome → Type 0
+GivesUp t (Passed asker asked kind u) = ⊥
+GivesUp t (Answered asked asker u k) = ⊥
+GivesUp t (Swallowed asked u) = ⊥
+GivesUp t Event = ⊥
+GivesUp t (Turned asker asked u k) = ⊥
+GivesUp t (Given asker asked u) = u ≡ t
+GivesUp t (Reset a) = ⊥
+GivesUp t (Refused r) = Unit {0}
+
+-- what a replaced call of the address a can come to
+abbrev pub Replaces : ℕ → Outcome → Type 0
+Replaces a (Passed asker asked kind u) = ⊥
+Replaces a (Answered asked asker u k) = ⊥
+Replaces a (Swallowed asked u) = ⊥
+Replaces a Event = ⊥
+Replaces a (Turned asker asked u k) = ⊥
+Replaces a (Given asker asked u) = ⊥
+Replaces a (Reset h) = h ≡ handlerOf a
+Replaces a (Refused r) = Unit {0}
+
+abbrev pub Says : Call → Outcome → Type 0
+Says (message s) o = ReadSays (readOf s) (codeOf (partOf s)) o
+Says (giveUp t) o = GivesUp t o
+Says (replaced a) o = Replaces a o
+
+-- ---- a message
+module _ (v : View) (h : Head) where
+  response-says : (code : Coded) → h .kind ≡ response → Spoken h code (judgeResponse (v .places) h code)
+  unfolding judgeResponse reply late
+  response-says Missing k = tt
+  response-says (Code code) k = go (answerable (v .places) (h .source) (h .thread))
+    where
+      go : (o : Option Place) → Spoken h (Code code) (reply (v .places) o h code)
+      go none = split (someOf (owesExactly (h .source) (h .thread)) (v .places)) (λ p. rw p (k, refl, refl)) (λ p. rw p tt)
+      go (some w) =
+          checks-are (Spoken h (Code code)) (replyTests w h) (Answered (h .source) (h .destination) (h .thread) code) (tt, tt) (λ _. (k, refl, refl, refl, refl))
+
+  command-says : (code : Coded) → Spoken h code (judgeCommand v h)
+  unfolding judgeCommand
+  command-says code =
+      let back : (h .source ≡ h .source) × (h .destination ≡ h .destination) × (h .thread ≡ h .thread) = (refl, refl, refl) in
+      checks-are (Spoken h code) (rules v h) (Passed (h .source) (h .destination) (h .kind) (h .thread)) (back, (back, (back, (back, (back, (back, tt))))))
+      (λ _. (refl, refl, refl, refl))
+
+  kind-says : (code : Coded) → Spoken h code (judgeKind v h code)
+  unfolding judgeKind
+  kind-says code =
+      split (eqb (h .kind) response) (λ p. rw p (response-says code (eqb-true (h .kind) response p)))
+      (λ p. rw p (split (isAddEvent h)
+      (λ q. rw q (split (openedAt eventHandler (v .rows)) (λ b. rw b q) (λ b. rw b tt)))
+      (λ q. rw q (command-says code))))
+
+read-says : (v : View) (r : Reading) (code : Coded) → ReadSays r code (judgeRead v r code)
+unfolding judgeRead
+read-says v (Unread r) code = tt
+read-says v (Message h) code = checks-are (Spoken h code) (commonTests (v .rows) h) (judgeKind v h code) (tt, (tt, tt)) (λ _. kind-says v h code)
+
+refused-says : (r : Reading) (code : Coded) → (o : Outcome) → OnlyRefused o → ReadSays r code o
+refused-says (Unread r) code o u = u
+refused-says (Message h) code (Passed asker asked kind t) u = absurd u
+refused-says (Message h) code (Answered asked asker t k) u = absurd u
+refused-says (Message h) code (Swallowed asked t) u = absurd u
+refused-says (Message h) code Event u = absurd u
+refused-says (Message h) code (Turned asker asked t k) u = absurd u
+refused-says (Message h) code (Given asker asked t) u = absurd u
+refused-says (Message h) code (Reset a) u = absurd u
+refused-says (Message h) code (Refused r) u = tt
+
+message-says : (v : View) (room : ℕ) (s : List ℕ) → Says (message s) (judgeMessage v room s)
+unfolding judgeMessage
+message-says v room s =
+    split (ltb room 10) (λ p. rw p (refused-says (readOf s) (codeOf (partOf s)) (Refused BufferTooSmall) tt)) (λ p. rw p (read-says v (readOf s) (codeOf (partOf s))))
+
+-- ---- Give up, Replaced
+
+yields-says : (v : View) (t : ℕ) (o : Option Place) → first (openOn t) (v .places) ≡ o → GivesUp t (yields o)
+unfolding yields
+yields-says v t none e = tt
+yields-says v t (some w) e = eqb-true (w .thread) t (open-thread t w (first-yes (openOn t) (v .places) w e))
+
+give-up-says : (v : View) (room t : ℕ) → GivesUp t (judgeGiveUp v room t)
+unfolding judgeGiveUp
+give-up-says v room t =
+    split (ltb room 10) (λ p. rw p tt) (λ p. rw p (split (ltb 7 t) (λ q. rw q tt) (λ q. rw q (yields-says v t (first (openOn t) (v .places)) refl))))
+
+replaced-says : (v : View) (a : ℕ) → Replaces a (judgeReplaced v a)
+unfolding judgeReplaced
+replaced-says v a =
+    split (listed (handlerOf a) (v .rows))
+    (λ p. rw p (split (someOf (standsIn (handlerOf a)) (v .places)) (λ q. rw q tt) (λ q. rw q)))
+    (λ p. rw p tt)
+
+-- ---- any call, in any view
+pub says : (v : View) (room : ℕ) (c : Call) → Says c (judge v room c)
+says v room (message s) = message-says v room s
+says v room (giveUp t) = give-up-says v room t
+says v room (replaced a) = replaced-says v a
