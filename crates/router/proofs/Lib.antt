@@ -1,0 +1,7 @@
+pub mod Steps
+pub mod Responses
+pub mod Commands
+pub mod Messages
+pub mod States
+pub mod Starts
+pub mod Once

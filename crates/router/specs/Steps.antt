@@ -1,7 +1,7 @@
 -- What the functions that change the state's arrays in place show.
 use Prim.Native.Nat.{ℕ}
 use mathlib.Core.Path.{_≡_}
-use mathlib.Core.Bool.{Bool, cond}
+use mathlib.Core.Bool.{Bool, not, _&&_, cond}
 use mathlib.Core.List.{List}
 use mathlib.Core.Option.{Option, some}
 use lib.Dec.{eqb}
@@ -9,13 +9,15 @@ use Rattle.lists.specs.declared.Found.{Found}
 use Rattle.lists.specs.declared.Found.the-variants.{At, Nothing}
 use Rattle.lists.specs.Lists.{find}
 use Rattle.message.specs.declared.Head.{Head}
-use Rattle.table.specs.Table.{rowsOf, Columns}
+use Rattle.tapa.specs.Codes.{openHandler}
+use Rattle.table.specs.declared.Row.{Row}
+use Rattle.table.specs.Table.{openedAt, rowsOf, Columns}
 use Rattle.places.specs.declared.Place.{Place}
 use Rattle.places.specs.Places.{placeAt, placesOf, openOn, Becomes}
 use Rattle.rules.specs.View.{View}
 use Rattle.rules.specs.declared.Outcome.{Outcome}
 use Rattle.rules.specs.declared.Outcome.the-variants.{Passed}
-use Rattle.rules.specs.Judge.{turned}
+use Rattle.rules.specs.Judge.{turned, judgeGiveUp}
 use Rattle.rules.specs.Apply.{reopened, rowsAfter, placesAfter, written}
 use Rattle.router.specs.declared.Step.{Step}
 use Rattle.router.specs.declared.Ruling.{Ruling}
@@ -63,7 +65,17 @@ pub record Reopening (a : List ℕ) (before after : List Bool) (n : ℕ) (w : Pl
 
 -- ---- Any other type
 
+-- rule c: 'asked handler closed, and not Open Handler'
+abbrev pub closedTo : List Row → (handler kind : ℕ) → Bool
+closedTo rows h kind = not (openedAt h rows) && not (eqb kind openHandler)
+
 -- what the rules a to f say of a command, as an outcome
 abbrev pub ruled : Head → Ruling → Outcome
 ruled h (Back code) = turned h code
 ruled h On = Passed (h .source) (h .destination) (h .kind) (h .thread)
+
+-- ---- Give up
+
+-- it looks at no row: this holds of any
+abbrev pub Giving : List Place → (room thread : ℕ) → (l before after : List ℕ) → Step → Type 0
+Giving ps room t l before after s = (rows : List Row) → Writing (judgeGiveUp (record { rows = rows; places = ps }) room t) ps l before after s

@@ -8,13 +8,16 @@
 // The law of a state (`Lawful`) holds of every router that a start or a call hands back. With the
 // view it leaves one state possible: proofs/Once.antt.
 use lists::Found;
-use message::{Coded, Head, Reading};
+use message::Coded;
+use message::Head;
+use message::Reading;
 use places::Place;
 use rules::Outcome;
-use table::{Checked, Row, Rows};
+use table::Checked;
+use table::Row;
+use table::Rows;
 use tapa::Refusal;
 ghost use mathlib.Core.Path.{_≡_};
-ghost use mathlib.Core.List.{[]};
 ghost use Prim.Native.Nat.{_≤_};
 ghost use lib.ListN.{length, take};
 ghost use Rattle.lists.specs.Lists.{count as countOf};
@@ -25,7 +28,7 @@ ghost use Rattle.rules.specs.Judge.{late, judgeResponse, isAddEvent, judgeEvent
 ghost use Rattle.rules.specs.Apply.{sent};
 ghost use Rattle.message.specs.Message.{codeOf, partOf};
 ghost use Rattle.router.specs.Router.{viewOf, Lawful, Routing, Replacing};
-ghost use Rattle.router.specs.Steps.{heldView, Placing, Writing, Moving, Stepping, answerAt, Reopening, ruled};
+ghost use Rattle.router.specs.Steps.{heldView, Placing, Writing, Moving, Stepping, answerAt, Reopening, closedTo, ruled, Giving};
 ghost use Rattle.router.specs.Start.{freshOver, startWith, startOf};
 
 // The list of places with its length, and the table's two columns with their length.
@@ -74,13 +77,7 @@ fn answer_at(list: &[u64; 48], len: usize, source: u16, thread: u8) -> Found
 }
 
 // The handler of an answered Open Handler or Close Handler becomes open or closed.
-fn reopen(
-    addresses: &[u16; 16],
-    opens: &mut [bool; 16],
-    count: usize,
-    wait: Place,
-    code: u16,
-)
+fn reopen(addresses: &[u16; 16], opens: &mut [bool; 16], count: usize, wait: Place, code: u16)
     requires { ⌜ Columns (now addresses) (now opens) count ⌝ }
     ensures { λ _. ⌜ Reopening (now (addresses .entry)) (now (opens .entry)) (now (opens .exit)) count wait code ⌝ }
 {
@@ -184,6 +181,23 @@ fn event<'a>(addresses: &'a [u16; 16], opens: &'a [bool; 16], count: usize) -> O
 
 // ---- Any other type
 
+// Rule c: whether the handler is closed to a command of this type.
+fn is_closed<'a>(
+    addresses: &'a [u16; 16],
+    opens: &'a [bool; 16],
+    count: usize,
+    handler: u16,
+    kind: u8,
+) -> bool
+    requires { ⌜ count ≤ 16 ⌝ }
+    ensures { λ r. ⌜ r ≡ closedTo (rowsOf (now (addresses .entry)) (now (opens .entry)) count) handler kind ⌝ }
+{
+    if table::is_open(addresses, opens, count, handler) {
+        return false;
+    }
+    kind != tapa::OPEN_HANDLER
+}
+
 // Rule d: whether this source may ask on the thread.
 fn may_ask(list: &[u64; 48], len: usize, thread: u8, source: u16) -> bool
     requires { ⌜ places.Lawful (now list) len ⌝ }
@@ -232,10 +246,8 @@ fn rule_for<'a>(
     if !tapa::is_known(tapa::category(head.destination), head.kind) {
         return Ruling::Back(tapa::UNSUPPORTED_OPERATION);
     }
-    if head.kind != tapa::OPEN_HANDLER {
-        if !table::is_open(addresses, opens, count, handler) {
-            return Ruling::Back(tapa::MUST_BE_OPENED);
-        }
+    if is_closed(addresses, opens, count, handler, head.kind) {
+        return Ruling::Back(tapa::MUST_BE_OPENED);
     }
     if !may_ask(list, len, head.thread, head.source) {
         return Ruling::Back(tapa::HANDLER_ERROR);
@@ -375,7 +387,7 @@ fn route_in(
 
 fn give_in(list: &mut [u64; 48], len: usize, thread: u8, reply: &mut [u8]) -> Step
     requires { ⌜ places.Lawful (now list) len ⌝ }
-    ensures { λ s. ⌜ Writing (judgeGiveUp (record { rows = []; places = placesOf (now (list .entry)) len }) (length (now (reply .entry))) thread) (placesOf (now (list .entry)) len) (now (list .exit)) (now (reply .entry)) (now (reply .exit)) s ⌝ }
+    ensures { λ s. ⌜ Giving (placesOf (now (list .entry)) len) (length (now (reply .entry))) thread (now (list .exit)) (now (reply .entry)) (now (reply .exit)) s ⌝ }
 {
     if reply.len() < 10 {
         return Step {
@@ -396,7 +408,13 @@ fn give_in(list: &mut [u64; 48], len: usize, thread: u8, reply: &mut [u8]) -> St
         },
         Found::At(at) => {
             let wait = places::place_at(list, len, at);
-            message::respond(reply, wait.asker, wait.asked, wait.thread, tapa::HANDLER_ERROR);
+            message::respond(
+                reply,
+                wait.asker,
+                wait.asked,
+                wait.thread,
+                tapa::HANDLER_ERROR,
+            );
             places::owe(list, len, at);
             Step {
                 outcome: Outcome::Given {
@@ -455,7 +473,15 @@ impl Router {
         let addresses = self.addresses;
         let mut opens = self.opens;
         let mut list = self.list;
-        let step = route_in(&addresses, &mut opens, self.count, &mut list, self.len, message, reply);
+        let step = route_in(
+            &addresses,
+            &mut opens,
+            self.count,
+            &mut list,
+            self.len,
+            message,
+            reply,
+        );
         let outcome = step.outcome;
         let next = Router {
             list,
@@ -493,7 +519,14 @@ impl Router {
         let addresses = self.addresses;
         let mut opens = self.opens;
         let mut list = self.list;
-        let step = replaced_in(&addresses, &mut opens, self.count, &mut list, self.len, address);
+        let step = replaced_in(
+            &addresses,
+            &mut opens,
+            self.count,
+            &mut list,
+            self.len,
+            address,
+        );
         let outcome = step.outcome;
         let next = Router {
             list,

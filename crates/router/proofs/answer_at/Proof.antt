@@ -1,38 +1,34 @@
+-- `router::answer_at` meets its contract: the innermost wait is found, and its address compared. Assumes nothing.
+use mathlib.Core.Path.{_≡_, refl, sym, ap, _∙_}
+use Rattle.router.proofs.Responses.{asked-none, asked-other, asked-this}
 use borrow.Author.Needs.{needs}
 use Rattle.router.proofs.answer_at.Statement.{statement}
 use Rattle.router.proofs.answer_at.Tie as tie
-use Rattle.router.proofs.answer_at.Reads as reads
-use Rattle.router.proofs.answer_at.Lts as lts
-use Rattle.places.proofs.innermost.Reads as innermost-reads
-use Rattle.places.proofs.place_at.Reads as place-at-reads
 
--- src/lib.rt:65:9
 innermost-requires : tie.Need-innermost-requires
 innermost-requires c κs = search needs
 
--- src/lib.rt:66:19
 enum-known-found : tie.Need-enum-known-found
 enum-known-found c = search needs
 
--- src/lib.rt:67:9
 enum-told : tie.Need-enum-told
 enum-told c = search needs
 
--- src/lib.rt:67:9
 returns : tie.Need-returns
-returns c = ?
+returns c = let a = c .before .before .before .args in asked-none (a .list .now) (a .source) _ _ (c .before .before .innermost .ensures) (c .enum-told .given .1)
 
--- src/lib.rt:69:9
 place-at-requires : tie.Need-place-at-requires
 place-at-requires c κs = search needs
 
--- src/lib.rt:71:9
 returns-2 : tie.Need-returns-2
-returns-2 c = ?
+returns-2 c = let a = c .before .before .before .before .before .before .before .args in
+    asked-other (a .list .now) (a .source) _ _ _ (sym (c .before .before .before .before .before .before .innermost .ensures) ∙ c .before .before .before .before .found .given .1) (c .before .before .place-at .ensures) (c .if1 .taken)
 
--- src/lib.rt:61:1
 returns-3 : tie.Need-returns-3
-returns-3 c = ?
+returns-3 c = let a = c .before .before .before .before .before .before .before .args in
+    let f = c .before .before .before .before .before .before .innermost .ensures in
+    let i = c .before .before .before .before .found .given .1 in
+    sym i ∙ f ∙ asked-this (a .list .now) (a .source) _ _ _ (sym f ∙ i) (c .before .before .place-at .ensures) (c .if1 .left)
 
 pub answer-at-spec : {M : Type 1} → statement M
 answer-at-spec =

@@ -1,56 +1,54 @@
+-- `router::give_in` meets its contract: the innermost wait is found, answered for and owed. Assumes nothing.
+use mathlib.Core.Path.{_≡_, refl, sym, ap, _∙_}
+use Rattle.tapa.specs.declared.Refusal.the-variants.{ThreadAbove7, BufferTooSmall, NothingToGiveUp}
+use Rattle.router.proofs.Steps.{unwritten}
+use Rattle.router.proofs.Messages.{give-small, give-high, give-none, give-one, gives}
 use borrow.Author.Needs.{needs}
 use Rattle.router.proofs.give_in.Statement.{statement}
 use Rattle.router.proofs.give_in.Tie as tie
-use Rattle.router.proofs.give_in.Reads as reads
-use Rattle.router.proofs.give_in.Lts as lts
-use Rattle.message.proofs.respond.Reads as respond-reads
-use Rattle.places.proofs.innermost.Reads as innermost-reads
-use Rattle.places.proofs.owe.Reads as owe-reads
-use Rattle.places.proofs.place_at.Reads as place-at-reads
 
--- src/lib.rt:381:9
 returns : tie.Need-returns
-returns c = ?
+returns c = λ rows. let a = c .before .before .args in
+    unwritten _ _ (c .before .before .pre) _ _ BufferTooSmall (give-small rows (a .list .now) (a .len) _ _ (c .if1 .taken))
 
--- src/lib.rt:387:9
 returns-2 : tie.Need-returns-2
-returns-2 c = ?
+returns-2 c = λ rows. let a = c .before .before .before .args in
+    unwritten _ _ (c .before .before .before .pre) _ _ ThreadAbove7 (give-high rows (a .list .now) (a .len) _ _ (c .before .if1 .left) (c .if2 .taken))
 
--- src/lib.rt:392:11
 innermost-requires : tie.Need-innermost-requires
 innermost-requires c κs = search needs
 
--- src/lib.rt:394:39
 enum-told : tie.Need-enum-told
 enum-told c = search needs
 
--- src/lib.rt:397:19
 enum-known-at : tie.Need-enum-known-at
 enum-known-at c = search needs
 
--- src/lib.rt:398:17
 place-at-requires : tie.Need-place-at-requires
 place-at-requires c κs = search needs
 
--- src/lib.rt:399:13
 respond-requires : tie.Need-respond-requires
 respond-requires c κs = search needs
 
--- src/lib.rt:400:13
 owe-requires : tie.Need-owe-requires
 owe-requires c κs = search needs
 
--- src/lib.rt:376:1
 returns-3 : tie.Need-returns-3
-returns-3 c = ?
+returns-3 c = λ rows. let a = c .before .before .before .before .before .before .before .args in
+    unwritten _ _ (c .before .before .before .before .before .before .before .pre) _ _ NothingToGiveUp
+    (give-none rows (a .list .now) (a .len) _ (a .thread) (c .before .before .before .before .before .if1 .left) (c .before .before .before .before .if2 .left) (sym (c .before .before .innermost .ensures) ∙ c .enum-told .given .1))
 
--- src/lib.rt:376:1
 same-length : tie.Need-same-length
 same-length c = search needs
 
--- src/lib.rt:376:1
 returns-4 : tie.Need-returns-4
-returns-4 c = ?
+returns-4 c = λ rows.
+    let a = c .before .before .before .before .before .before .before .before .before .before .before .before .before .before .before .before .args in
+    let f = sym (c .before .before .before .before .before .before .before .before .before .before .before .innermost .ensures) ∙ c .before .before .before .before .before .before .before .before .before .at .given .1 in
+    let k = c .before .before .before .before .before .before .before .before .before .before .before .before .before .before .if1 .left in
+    let p = c .before .before .before .before .before .before .place-at .ensures in
+    gives (a .list .now) (a .len) (a .thread) _ f _ _ _ _ k (c .owe .ensures) _ p
+    (rw p (give-one rows (a .list .now) (a .len) _ (a .thread) k (c .before .before .before .before .before .before .before .before .before .before .before .before .before .if2 .left) _ f)) (c .before .before .before .before .respond .ensures)
 
 pub give-in-spec : {M : Type 1} → statement M
 give-in-spec =

@@ -1,54 +1,47 @@
+-- `router::kind_in` meets its contract: by type, each as its own function shows. Assumes nothing.
+use mathlib.Core.Path.{_≡_, refl, sym, ap, _∙_}
+use borrow.Author.Tests.{not-true, not-false}
+use Rattle.message.specs.Message.{codeOf}
+use Rattle.router.proofs.Messages.{is-response, is-event, is-command, response-steps, event-steps, command-steps}
 use borrow.Author.Needs.{needs}
 use Rattle.router.proofs.kind_in.Statement.{statement}
 use Rattle.router.proofs.kind_in.Tie as tie
-use Rattle.router.proofs.kind_in.Reads as reads
-use Rattle.router.proofs.kind_in.Lts as lts
-use Rattle.message.proofs.data_part.Reads as data-part-reads
-use Rattle.message.proofs.response_code.Reads as response-code-reads
-use Rattle.router.proofs.command_in.Reads as command-in-reads
-use Rattle.router.proofs.event.Reads as event-reads
-use Rattle.router.proofs.is_add_event.Reads as is-add-event-reads
-use Rattle.router.proofs.response_in.Reads as response-in-reads
 
--- src/lib.rt:321:44
 data-part-requires : tie.Need-data-part-requires
 data-part-requires c κs = search needs
 
--- src/lib.rt:321:13
 response-code-requires : tie.Need-response-code-requires
 response-code-requires c κs = search needs
 
--- src/lib.rt:322:9
 response-in-requires : tie.Need-response-in-requires
 response-in-requires c κs = search needs
 
--- src/lib.rt:322:9
 returns : tie.Need-returns
-returns c = ?
+returns c = let s = c .before .before .before .before .before .before .before .before .before in
+    response-steps _ (s .args .head) _ _ _ _ _ _ _ _ _ (is-response _ _ _ (c .before .before .before .before .before .if1 .taken))
+    (c .before .before .before .response-code .ensures ∙ ap codeOf (c .before .before .before .before .data-part .ensures)) (c .response-in .ensures)
 
--- src/lib.rt:324:8
 is-add-event-requires : tie.Need-is-add-event-requires
 is-add-event-requires c κs = search needs
 
--- src/lib.rt:325:13
 event-requires : tie.Need-event-requires
 event-requires c κs = search needs
 
--- src/lib.rt:326:9
 returns-2 : tie.Need-returns-2
-returns-2 c = ?
+returns-2 c = let s = c .before .before .before .before .before .before .before .before in
+    event-steps _ _ _ _ _ (s .pre .0) (s .pre .1 .0) _ _ _
+    (is-event _ _ _ (c .before .before .before .before .if1 .left) (sym (c .before .before .before .is-add-event .ensures) ∙ c .before .before .if2 .taken)) (c .event .ensures)
 
--- src/lib.rt:328:5
 command-in-requires : tie.Need-command-in-requires
 command-in-requires c κs = search needs
 
--- src/lib.rt:305:1
 same-length : tie.Need-same-length
 same-length c = search needs
 
--- src/lib.rt:305:1
 returns-3 : tie.Need-returns-3
-returns-3 c = ?
+returns-3 c = let s = c .before .before .before .before .before .before .before .before .before .before .before .before in
+    command-steps _ (s .args .head) _ _ _ _ _ _ _ _
+    (is-command _ _ _ (c .before .before .before .before .before .before .before .before .if1 .left) (sym (c .before .before .before .before .before .before .before .is-add-event .ensures) ∙ c .before .before .before .before .before .before .if2 .left)) refl (s .pre .1 .0) (c .before .before .command-in .ensures)
 
 pub kind-in-spec : {M : Type 1} → statement M
 kind-in-spec =

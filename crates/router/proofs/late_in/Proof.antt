@@ -1,34 +1,31 @@
+-- `router::late_in` meets its contract: the owing that was found ends. Assumes nothing.
+use mathlib.Core.Path.{_≡_, refl, sym, ap, _∙_}
+use Rattle.router.proofs.Steps.{unplaced}
+use Rattle.router.proofs.Responses.{swallows, strays}
+use Rattle.tapa.specs.declared.Refusal.the-variants.{StrayResponse}
 use borrow.Author.Needs.{needs}
 use Rattle.router.proofs.late_in.Statement.{statement}
 use Rattle.router.proofs.late_in.Tie as tie
-use Rattle.router.proofs.late_in.Reads as reads
-use Rattle.router.proofs.late_in.Lts as lts
-use Rattle.places.proofs.find_owed.Reads as find-owed-reads
-use Rattle.places.proofs.remove.Reads as remove-reads
 
--- src/lib.rt:104:11
 find-owed-requires : tie.Need-find-owed-requires
 find-owed-requires c κs = search needs
 
--- src/lib.rt:105:19
 enum-known-i : tie.Need-enum-known-i
 enum-known-i c = search needs
 
--- src/lib.rt:106:17
 remove-requires : tie.Need-remove-requires
 remove-requires c κs = search needs
 
--- src/lib.rt:116:39
 enum-told : tie.Need-enum-told
 enum-told c = search needs
 
--- src/lib.rt:100:1
 returns : tie.Need-returns
-returns c = ?
+returns c = let a = c .before .before .before .before .before .before .before .args in
+    swallows (a .list .now) (a .len) (a .head) _ _ _ (sym (c .before .before .before .before .before .find-owed .ensures) ∙ c .before .before .before .i .given .1) (c .remove .ensures)
 
--- src/lib.rt:100:1
 returns-2 : tie.Need-returns-2
-returns-2 c = ?
+returns-2 c = let a = c .before .before .before .before .args in
+    unplaced _ _ (c .before .before .before .before .pre) _ StrayResponse (strays (a .list .now) (a .len) (a .head) (sym (c .before .before .find-owed .ensures) ∙ c .enum-told .given .1))
 
 pub late-in-spec : {M : Type 1} → statement M
 late-in-spec =

@@ -1,42 +1,33 @@
+-- `router::reopen` meets its contract: the code and the type decide, and `set_open` does the rest. Assumes nothing.
+use mathlib.Core.Path.{_≡_, refl, sym, ap, _∙_}
+use Rattle.router.proofs.Responses.{reopens-not, reopens-other, reopens-open, reopens-close}
 use borrow.Author.Needs.{needs}
 use Rattle.router.proofs.reopen.Statement.{statement}
 use Rattle.router.proofs.reopen.Tie as tie
-use Rattle.router.proofs.reopen.Reads as reads
-use Rattle.router.proofs.reopen.Lts as lts
-use Rattle.table.proofs.set_open.Reads as set-open-reads
-use Rattle.tapa.proofs.handler.Reads as handler-reads
 
--- src/lib.rt:88:9
 returns : tie.Need-returns
-returns c = ?
+returns c = reopens-not _ _ _ _ _ (c .before .pre) (c .if1 .taken)
 
--- src/lib.rt:91:50
 handler-requires : tie.Need-handler-requires
 handler-requires c κs = search needs
 
--- src/lib.rt:91:9
 set-open-requires : tie.Need-set-open-requires
 set-open-requires c κs = search needs
 
--- src/lib.rt:92:9
 returns-2 : tie.Need-returns-2
-returns-2 c = ?
+returns-2 c = reopens-open _ _ _ _ _ _ _ (c .before .before .before .before .before .if1 .left) (c .before .handler .ensures) (c .before .before .before .if2 .taken) (c .set-open .ensures)
 
--- src/lib.rt:95:50
 handler-requires-2 : tie.Need-handler-requires-2
 handler-requires-2 c κs = search needs
 
--- src/lib.rt:95:9
 set-open-requires-2 : tie.Need-set-open-requires-2
 set-open-requires-2 c κs = search needs
 
--- src/lib.rt:77:1
 returns-3 : tie.Need-returns-3
-returns-3 c = ?
+returns-3 c = reopens-close _ _ _ _ _ _ _ (c .before .before .before .before .before .before .before .if1 .left) (c .before .handler2 .ensures) (c .before .before .before .before .before .if2 .left) (c .before .before .before .if3 .taken) (c .set-open2 .ensures)
 
--- src/lib.rt:77:1
 returns-4 : tie.Need-returns-4
-returns-4 c = ?
+returns-4 c = reopens-other _ _ _ _ _ (c .before .before .before .before .before .pre) (c .before .before .before .before .if1 .left) (c .before .before .if2 .left) (c .if3 .left)
 
 pub reopen-spec : {M : Type 1} → statement M
 reopen-spec =

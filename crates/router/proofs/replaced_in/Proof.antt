@@ -1,45 +1,44 @@
+-- `router::replaced_in` meets its contract: the checks in their order, then the mark and the owings. Assumes nothing.
+use mathlib.Core.Path.{_≡_, refl, sym, ap, _∙_}
+use borrow.Author.Tests.{not-true, not-false}
+use Rattle.tapa.specs.declared.Refusal.the-variants.{NotInTable, StandsInAWait}
+use Rattle.router.proofs.Steps.{unmoved}
+use Rattle.router.proofs.Messages.{replaced-unknown, replaced-waits, replaced-idle, resets}
 use borrow.Author.Needs.{needs}
 use Rattle.router.proofs.replaced_in.Statement.{statement}
 use Rattle.router.proofs.replaced_in.Tie as tie
-use Rattle.router.proofs.replaced_in.Reads as reads
-use Rattle.router.proofs.replaced_in.Lts as lts
-use Rattle.places.proofs.drop_owed.Reads as drop-owed-reads
-use Rattle.places.proofs.stands_in.Reads as stands-in-reads
-use Rattle.table.proofs.is_listed.Reads as is-listed-reads
-use Rattle.table.proofs.set_open.Reads as set-open-reads
-use Rattle.tapa.proofs.handler.Reads as handler-reads
 
--- src/lib.rt:427:9
 handler-requires : tie.Need-handler-requires
 handler-requires c κs = search needs
 
--- src/lib.rt:428:9
 is-listed-requires : tie.Need-is-listed-requires
 is-listed-requires c κs = search needs
 
--- src/lib.rt:429:9
 returns : tie.Need-returns
-returns c = ?
+returns c = let s = c .before .before .before .before in
+    unmoved _ _ (s .pre .0) _ _ _ (s .pre .1) _ NotInTable
+    (replaced-unknown _ _ _ (c .before .before .before .handler .ensures) (sym (c .before .is-listed .ensures) ∙ not-true _ (c .if1 .taken)))
 
--- src/lib.rt:434:8
 stands-in-requires : tie.Need-stands-in-requires
 stands-in-requires c κs = search needs
 
--- src/lib.rt:435:9
 returns-2 : tie.Need-returns-2
-returns-2 c = ?
+returns-2 c = let s = c .before .before .before .before .before .before .before in
+    unmoved _ _ (s .pre .0) _ _ _ (s .pre .1) _ StandsInAWait
+    (replaced-waits _ _ _ (c .before .before .before .before .before .before .handler .ensures) (sym (c .before .before .before .before .is-listed .ensures) ∙ not-false _ (c .before .before .before .if1 .left))
+    (sym (c .before .stands-in .ensures) ∙ c .if2 .taken))
 
--- src/lib.rt:440:5
 set-open-requires : tie.Need-set-open-requires
 set-open-requires c κs = search needs
 
--- src/lib.rt:441:9
 drop-owed-requires : tie.Need-drop-owed-requires
 drop-owed-requires c κs = search needs
 
--- src/lib.rt:415:1
 returns-3 : tie.Need-returns-3
-returns-3 c = ?
+returns-3 c = let a = c .before .before .before .before .before .before .before .before .before .before .before .args in
+    resets _ _ _ _ (a .list .now) (a .len) _ _ _ _
+    (replaced-idle _ _ _ (c .before .before .before .before .before .before .before .before .before .before .handler .ensures) (sym (c .before .before .before .before .before .before .before .before .is-listed .ensures) ∙ not-false _ (c .before .before .before .before .before .before .before .if1 .left))
+    (sym (c .before .before .before .before .before .stands-in .ensures) ∙ c .before .before .before .before .if2 .left)) (c .before .before .set-open .ensures) (c .drop-owed .ensures)
 
 pub replaced-in-spec : {M : Type 1} → statement M
 replaced-in-spec =

@@ -1,65 +1,63 @@
+-- `router::response_in` meets its contract: by the code, the wait that can be answered, and its asker. Assumes nothing.
+use mathlib.Core.Path.{_≡_, refl, sym, ap, _∙_}
+use mathlib.Core.Option.{some}
+use Rattle.tapa.specs.declared.Refusal.the-variants.{NoResponseCode, WrongAsker}
+use Rattle.router.proofs.Steps.{unmoved}
+use Rattle.router.proofs.Responses.{answer-none, answer-some, no-code, comes-late, wrong-asker, right-asker, late-moves, answers}
 use borrow.Author.Needs.{needs}
 use Rattle.router.proofs.response_in.Statement.{statement}
 use Rattle.router.proofs.response_in.Tie as tie
-use Rattle.router.proofs.response_in.Reads as reads
-use Rattle.router.proofs.response_in.Lts as lts
-use Rattle.places.proofs.place_at.Reads as place-at-reads
-use Rattle.places.proofs.remove.Reads as remove-reads
-use Rattle.router.proofs.answer_at.Reads as answer-at-reads
-use Rattle.router.proofs.late_in.Reads as late-in-reads
-use Rattle.router.proofs.reopen.Reads as reopen-reads
 
--- src/lib.rt:135:21
 enum-known-coded : tie.Need-enum-known-coded
 enum-known-coded c = search needs
 
--- src/lib.rt:137:39
 enum-told : tie.Need-enum-told
 enum-told c = search needs
 
--- src/lib.rt:136:9
 returns : tie.Need-returns
-returns c = ?
+returns c = let s = c .before .before in
+    unmoved _ _ (s .pre .0) _ _ _ (s .pre .1) _ NoResponseCode (no-code _ _ _ (c .enum-told .given .1))
 
--- src/lib.rt:141:25
 answer-at-requires : tie.Need-answer-at-requires
 answer-at-requires c κs = search needs
 
--- src/lib.rt:141:19
 enum-known-at : tie.Need-enum-known-at
 enum-known-at c = search needs
 
--- src/lib.rt:142:24
 enum-told-2 : tie.Need-enum-told-2
 enum-told-2 c = search needs
 
--- src/lib.rt:142:9
 late-in-requires : tie.Need-late-in-requires
 late-in-requires c κs = search needs
 
--- src/lib.rt:142:9
 returns-2 : tie.Need-returns-2
-returns-2 c = ?
+returns-2 c = let a = c .before .before .before .before .before .before .before .before .before .args in
+    late-moves _ _ _ (a .list .now) (a .len) _ (a .head) _ _ _
+    (comes-late _ _ _ _ (c .before .before .before .before .before .before .before .coded .given .1)
+    (answer-none (a .list .now) (a .len) (a .head .source) (a .head .thread) (sym (c .before .before .before .before .answer-at .ensures) ∙ c .before .before .enum-told2 .given .1)))
+    (c .before .before .before .before .before .before .before .before .before .pre .1) (c .late-in .ensures)
 
--- src/lib.rt:144:9
 place-at-requires : tie.Need-place-at-requires
 place-at-requires c κs = search needs
 
--- src/lib.rt:146:9
 returns-3 : tie.Need-returns-3
-returns-3 c = ?
+returns-3 c = let a = c .before .before .before .before .before .before .before .before .before .before .before .before .before .args in
+    let x = answer-some (a .list .now) (a .len) (a .head .source) (a .head .thread) _ (sym (c .before .before .before .before .before .before .before .before .answer-at .ensures) ∙ c .before .before .before .before .before .before .at .given .1) in
+    unmoved _ _ (c .before .before .before .before .before .before .before .before .before .before .before .before .before .pre .0) _ _ _ (c .before .before .before .before .before .before .before .before .before .before .before .before .before .pre .1) _ WrongAsker
+    (wrong-asker _ _ _ _ (c .before .before .before .before .before .before .before .before .before .before .before .coded .given .1) _ (x .it ∙ ap some (sym (c .before .before .before .place-at .ensures))) (c .if1 .taken))
 
--- src/lib.rt:151:5
 reopen-requires : tie.Need-reopen-requires
 reopen-requires c κs = search needs
 
--- src/lib.rt:152:9
 remove-requires : tie.Need-remove-requires
 remove-requires c κs = search needs
 
--- src/lib.rt:122:1
 returns-4 : tie.Need-returns-4
-returns-4 c = ?
+returns-4 c = let a = c .before .before .before .before .before .before .before .before .before .before .before .before .before .before .before .before .before .args in
+    let x = answer-some (a .list .now) (a .len) (a .head .source) (a .head .thread) _ (sym (c .before .before .before .before .before .before .before .before .before .before .before .before .answer-at .ensures) ∙ c .before .before .before .before .before .before .before .before .before .before .at .given .1) in
+    answers _ _ _ (a .list .now) (a .len) _ _ _ _ _ _ _ _ _
+    (right-asker _ _ _ _ (c .before .before .before .before .before .before .before .before .before .before .before .before .before .before .before .coded .given .1) _ (x .it ∙ ap some (sym (c .before .before .before .before .before .before .before .place-at .ensures))) (c .before .before .before .before .if1 .left)) x
+    (rw (c .before .before .before .before .before .before .before .place-at .ensures) at (c .before .before .reopen .ensures)) (c .remove .ensures)
 
 pub response-in-spec : {M : Type 1} → statement M
 response-in-spec =

@@ -1,60 +1,67 @@
+-- `router::route_in` meets its contract: the common checks in their order. Assumes nothing.
+use mathlib.Core.Path.{_≡_, refl, sym, ap, _∙_}
+use Prim.Native.Nat.{ℕ}
+use mathlib.Core.Bool.{Bool, true, false}
+use borrow.Author.Tests.{not-true, not-false}
+use Rattle.tapa.specs.declared.Refusal.the-variants.{NotInTable, ThreadAbove7, BufferTooSmall}
+use Rattle.tapa.specs.Address.{handlerOf}
+use Rattle.table.specs.Table.{listed, rowsOf}
+use Rattle.router.proofs.Steps.{unstepped}
+use Rattle.router.proofs.Messages.{small-buffer, unread, unknown-source, high-thread, by-kind, step-as}
 use borrow.Author.Needs.{needs}
 use Rattle.router.proofs.route_in.Statement.{statement}
 use Rattle.router.proofs.route_in.Tie as tie
-use Rattle.router.proofs.route_in.Reads as reads
-use Rattle.router.proofs.route_in.Lts as lts
-use Rattle.message.proofs.read.Reads as read-reads
-use Rattle.router.proofs.kind_in.Reads as kind-in-reads
-use Rattle.table.proofs.is_listed.Reads as is-listed-reads
-use Rattle.tapa.proofs.handler.Reads as handler-reads
 
--- src/lib.rt:346:9
+-- whether the source is listed, as the rules say it
+told : (b : Bool) (c : tie.After-is-listed) → c .is-listed .result ≡ b
+    → listed (handlerOf (c .before .before .before .before .head .given .0 .0 .source)) (rowsOf (c .before .before .before .before .before .before .before .before .before .before .args .addresses .now) (c .before .before .before .before .before .before .before .before .before .before .args .opens .now) (c .before .before .before .before .before .before .before .before .before .before .args .count)) ≡ b
+told b c e =
+    let a = c .before .before .before .before .before .before .before .before .before .before .args in
+    ap (λ (h : ℕ). listed h (rowsOf (a .addresses .now) (a .opens .now) (a .count))) (sym (c .before .handler .ensures)) ∙ sym (c .is-listed .ensures) ∙ e
+
 returns : tie.Need-returns
-returns c = ?
+returns c = let s = c .before .before .before in
+    unstepped _ _ (s .pre .0) _ _ _ (s .pre .1) _ _ BufferTooSmall (small-buffer _ _ _ (c .if1 .taken))
 
--- src/lib.rt:351:11
 read-requires : tie.Need-read-requires
 read-requires c κs = search needs
 
--- src/lib.rt:352:26
 enum-known-refusal : tie.Need-enum-known-refusal
 enum-known-refusal c = search needs
 
--- src/lib.rt:356:26
 enum-known-head : tie.Need-enum-known-head
 enum-known-head c = search needs
 
--- src/lib.rt:357:59
 handler-requires : tie.Need-handler-requires
 handler-requires c κs = search needs
 
--- src/lib.rt:357:17
 is-listed-requires : tie.Need-is-listed-requires
 is-listed-requires c κs = search needs
 
--- src/lib.rt:358:17
 returns-2 : tie.Need-returns-2
-returns-2 c = ?
+returns-2 c = let s = c .before .before .before .before .before .before .before .before .before .before .before in
+    unstepped _ _ (s .pre .0) _ _ _ (s .pre .1) _ _ NotInTable
+    (unknown-source _ _ _ (c .before .before .before .before .before .before .before .before .if1 .left) _ _ (c .before .before .before .before .before .before .before .read .ensures) (c .before .before .before .before .before .head .given .1) (told false (c .before) (not-true _ (c .if2 .taken))))
 
--- src/lib.rt:364:17
 returns-3 : tie.Need-returns-3
-returns-3 c = ?
+returns-3 c = let s = c .before .before .before .before .before .before .before .before .before .before .before .before .before in
+    unstepped _ _ (s .pre .0) _ _ _ (s .pre .1) _ _ ThreadAbove7
+    (high-thread _ _ _ (c .before .before .before .before .before .before .before .before .before .before .if1 .left) _ _ (c .before .before .before .before .before .before .before .before .before .read .ensures) (c .before .before .before .before .before .before .before .head .given .1) (told true (c .before .before .before) (not-false _ (c .before .before .if2 .left))) (c .if3 .taken))
 
--- src/lib.rt:369:13
 kind-in-requires : tie.Need-kind-in-requires
 kind-in-requires c κs = search needs
 
--- src/lib.rt:332:1
 returns-4 : tie.Need-returns-4
-returns-4 c = ?
+returns-4 c = let s = c .before .before .before .before .before .before .before in
+    unstepped _ _ (s .pre .0) _ _ _ (s .pre .1) _ _ _ (unread _ _ _ (c .before .before .before .before .if1 .left) _ _ (c .before .before .before .read .ensures) (c .before .refusal .given .1))
 
--- src/lib.rt:332:1
 same-length : tie.Need-same-length
 same-length c = search needs
 
--- src/lib.rt:332:1
 returns-5 : tie.Need-returns-5
-returns-5 c = ?
+returns-5 c = step-as _ _ _ _ _ _ _ _ _ _
+    (by-kind _ _ _ (c .before .before .before .before .before .before .before .before .before .before .before .before .before .before .before .before .if1 .left) _ _ (c .before .before .before .before .before .before .before .before .before .before .before .before .before .before .before .read .ensures) (c .before .before .before .before .before .before .before .before .before .before .before .before .before .head .given .1) (told true (c .before .before .before .before .before .before .before .before .before) (not-false _ (c .before .before .before .before .before .before .before .before .if2 .left))) (c .before .before .before .before .before .before .if3 .left))
+    (c .before .before .kind-in .ensures)
 
 pub route-in-spec : {M : Type 1} → statement M
 route-in-spec =

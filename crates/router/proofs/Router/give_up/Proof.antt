@@ -1,21 +1,19 @@
+-- `Router::give_up` meets its contract: what is done in place is the next state. Assumes nothing.
+use mathlib.Core.Path.{_≡_, refl, sym, ap, _∙_}
+use Rattle.rules.specs.Judge.{giveUp}
+use Rattle.router.proofs.States.{gives-up}
 use borrow.Author.Needs.{needs}
 use Rattle.router.proofs.Router.give_up.Statement.{statement}
 use Rattle.router.proofs.Router.give_up.Tie as tie
-use Rattle.router.proofs.Router.give_up.Reads as reads
-use Rattle.router.proofs.Router.give_up.Lts as lts
-use Rattle.router.proofs.give_in.Reads as give-in-reads
 
--- src/lib.rt:477:13
 give-in-requires : tie.Need-give-in-requires
 give-in-requires c κs = search needs
 
--- src/lib.rt:470:5
 same-length : tie.Need-same-length
 same-length c = search needs
 
--- src/lib.rt:470:5
 returns : tie.Need-returns
-returns c = ?
+returns c = gives-up (c .before .before .before .before .before .before .before .before .before .args .self) (c .before .before .before .before .before .before .before .before .before .pre) _ (c .before .before .before .before .before .before .before .before .before .args .thread) _ _ _ _ (c .before .before .give-in .ensures)
 
 pub give-up-spec : {M : Type 1} → statement M
 give-up-spec = tie.close (tie.spec give-in-requires same-length returns)
