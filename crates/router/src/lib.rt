@@ -539,6 +539,74 @@ impl Router {
     }
 }
 
+// ---- how many are under way
+
+// How many places of a list are owed.
+fn count_owed(list: &[u64; 48], len: usize) -> usize
+    requires { ⌜ places.Lawful (now list) len ⌝ }
+    ensures { λ r. ⌜ r ≡ countOf isOwed (placesOf (now (list .entry)) len) ⌝ }
+{
+    let mut owed = 0;
+    let mut i = 0;
+    while i < len {
+        let place = places::place_at(list, len, i);
+        if place.owed {
+            owed += 1;
+        }
+        i += 1;
+    }
+    owed
+}
+
+impl Router {
+    // How many owings there are.
+    pub fn owing(self) -> usize
+        requires { ⌜ Lawful self ⌝ }
+        ensures { λ r. ⌜ r ≡ countOf isOwed (viewOf self .places) ⌝ }
+    {
+        let list = self.list;
+        count_owed(&list, self.len)
+    }
+
+    // How many waits there are: every place that is not owed.
+    pub fn waiting(self) -> usize
+        requires { ⌜ Lawful self ⌝ }
+        ensures { λ r. ⌜ r ≡ countOf isOpen (viewOf self .places) ⌝ }
+    {
+        let list = self.list;
+        self.len - count_owed(&list, self.len)
+    }
+}
+
+// ---- the part to send
+
+// The ten bytes of a response that the router made, or all of a buffer that is smaller.
+fn first_ten(reply: &[u8]) -> &[u8]
+    ensures { λ r. ⌜ now r ≡ take 10 (now (reply .entry)) ⌝ }
+{
+    if reply.len() < 10 {
+        return reply;
+    }
+    &reply[0..10]
+}
+
+// What goes on after an outcome: a part of the message or of the reply buffer, never a copy.
+// Where nothing goes on, the part is empty.
+pub fn part_to_send<'a>(outcome: Outcome, message: &'a [u8], reply: &'a [u8]) -> &'a [u8]
+    ensures { λ r. ⌜ now r ≡ sent outcome (now (message .entry)) (now (reply .entry)) ⌝ }
+{
+    match outcome {
+        Outcome::Passed { .. } => message,
+        Outcome::Answered { .. } => message,
+        Outcome::Event => message,
+        Outcome::Turned { .. } => first_ten(reply),
+        Outcome::Given { .. } => first_ten(reply),
+        Outcome::Swallowed { .. } => &message[0..0],
+        Outcome::Reset { .. } => &message[0..0],
+        Outcome::Refused(_) => &message[0..0],
+    }
+}
+
 // ---- the start
 
 // What a start answers, and the router; a refused table leaves a blank one.
@@ -564,4 +632,11 @@ pub fn start_with(rows: Rows) -> Started
         count: held.count,
     };
     Started { answer, router }
+}
+
+// A fresh router over lent rows, which are read in order and copied.
+pub fn start(rows: &[Row]) -> Started
+    ensures { λ r. ⌜ r ≡ startOf (now (rows .entry)) ⌝ }
+{
+    start_with(table::read_rows(rows))
 }
