@@ -112,22 +112,25 @@ module _ (v : View) (h : Head) where
 -- ---- what is done
 
 module _ (l : List ℕ) (n : ℕ) (g : places.Lawful l n) (h : Head) (o : Outcome) (b : List ℕ) where
-  pub turns : (code : ℕ) (after : List ℕ)
+  pub turns : (code : ℕ) (after : List ℕ) (u : Outcome)
+      → u ≡ turned h code
       → turned h code ≡ o
       → 10 ≤ length b
       → after ≡ responded (h .source) (h .destination) (h .thread) code b
-      → Writing o (placesOf l n) l b after (record { outcome = turned h code; len = n })
-  turns code after e k w =
+      → Writing o (placesOf l n) l b after (record { outcome = u; len = n })
+  turns code after u d e k w =
       let s : after ≡ onto (responseOf (h .source) (h .destination) (h .thread) code) b = w ∙ rw (le-ltb (length b) 10 k) in
-      rw (← e) (record { placing = record { outcome = refl; places = record { holds = refl; law = g } }; reply = s })
+      rw (← e) (record { placing = record { outcome = d; places = record { holds = refl; law = g } }; reply = s })
 
-  pub passes : (more : ℕ) (m : List ℕ)
+  pub passes : (more : ℕ) (m : List ℕ) (u : Outcome) (w : Place)
+      → u ≡ Passed (h .source) (h .destination) (h .kind) (h .thread)
+      → w ≡ place (h .source) (h .destination) (h .kind) (h .thread)
       → Passed (h .source) (h .destination) (h .kind) (h .thread) ≡ o
       → length (placesOf l n) < 48
-      → Becomes m more (pushed (place (h .source) (h .destination) (h .kind) (h .thread)) (placesOf l n))
-      → Writing o (placesOf l n) m b b (record { outcome = Passed (h .source) (h .destination) (h .kind) (h .thread); len = more })
-  passes more m e k p =
+      → Becomes m more (pushed w (placesOf l n))
+      → Writing o (placesOf l n) m b b (record { outcome = u; len = more })
+  passes more m u w d f e k p =
       rw (← e) (record {
-        placing = record { outcome = refl; places = record { holds = p .holds ∙ rw (lt-ltb (length (placesOf l n)) 48 k); law = p .law } };
+        placing = record { outcome = d; places = record { holds = p .holds ∙ rw (lt-ltb (length (placesOf l n)) 48 k, f); law = p .law } };
         reply = refl;
       })

@@ -9,19 +9,20 @@ use Rattle.places.specs.Places.{placesOf}
 use Rattle.places.specs.Places as places
 use Rattle.rules.specs.declared.Outcome.{Outcome}
 use Rattle.rules.specs.declared.Outcome.the-variants.{Refused}
-use Rattle.router.specs.Steps.{heldView, Placing, Writing, Moving, Stepping}
+use Rattle.router.specs.declared.Step.{Step}
+use Rattle.router.specs.Steps.{heldView, refusing, Placing, Writing, Moving, Stepping}
 
 module _ (l : List ℕ) (n : ℕ) (h : places.Lawful l n) where
-  pub unplaced : (o : Outcome) (r : Refusal) → o ≡ Refused r → Placing o (placesOf l n) l (record { outcome = Refused r; len = n })
-  unplaced o r e = rw e (record { outcome = refl; places = record { holds = refl; law = h } })
+  pub unplaced : (o : Outcome) (r : Refusal) (s : Step) → s ≡ refusing r n → o ≡ Refused r → Placing o (placesOf l n) l s
+  unplaced o r s d e = rw (d, e) (record { outcome = refl; places = record { holds = refl; law = h } })
 
-  pub unwritten : (b : List ℕ) (o : Outcome) (r : Refusal) → o ≡ Refused r → Writing o (placesOf l n) l b b (record { outcome = Refused r; len = n })
-  unwritten b o r e = record { placing = unplaced o r e; reply = rw e }
+  pub unwritten : (b : List ℕ) (o : Outcome) (r : Refusal) (s : Step) → s ≡ refusing r n → o ≡ Refused r → Writing o (placesOf l n) l b b s
+  unwritten b o r s d e = record { placing = unplaced o r s d e; reply = rw e }
 
   module _ (a : List ℕ) (m : List Bool) (k : ℕ) (g : Columns a m k) where
-    pub unmoved : (o : Outcome) (r : Refusal) → o ≡ Refused r → Moving o (heldView a m k l n) a m k l (record { outcome = Refused r; len = n })
-    unmoved o r e = record { placing = unplaced o r e; rows = rw e; columns = g }
+    pub unmoved : (o : Outcome) (r : Refusal) (s : Step) → s ≡ refusing r n → o ≡ Refused r → Moving o (heldView a m k l n) a m k l s
+    unmoved o r s d e = record { placing = unplaced o r s d e; rows = rw e; columns = g }
 
-    pub unstepped : (b : List ℕ) (o : Outcome) (r : Refusal) → o ≡ Refused r
-        → Stepping o (heldView a m k l n) a m k l b b (record { outcome = Refused r; len = n })
-    unstepped b o r e = record { moving = unmoved o r e; reply = rw e }
+    pub unstepped : (b : List ℕ) (o : Outcome) (r : Refusal) (s : Step) → s ≡ refusing r n → o ≡ Refused r
+        → Stepping o (heldView a m k l n) a m k l b b s
+    unstepped b o r s d e = record { moving = unmoved o r s d e; reply = rw e }

@@ -8,6 +8,7 @@ use lib.Dec.{eqb}
 use Rattle.lists.specs.declared.Found.{Found}
 use Rattle.lists.specs.declared.Found.the-variants.{At, Nothing}
 use Rattle.lists.specs.Lists.{find}
+use Rattle.tapa.specs.declared.Refusal.{Refusal}
 use Rattle.message.specs.declared.Head.{Head}
 use Rattle.tapa.specs.Codes.{openHandler}
 use Rattle.table.specs.declared.Row.{Row}
@@ -16,7 +17,7 @@ use Rattle.places.specs.declared.Place.{Place}
 use Rattle.places.specs.Places.{placeAt, placesOf, openOn, Becomes}
 use Rattle.rules.specs.View.{View}
 use Rattle.rules.specs.declared.Outcome.{Outcome}
-use Rattle.rules.specs.declared.Outcome.the-variants.{Passed}
+use Rattle.rules.specs.declared.Outcome.the-variants.{Passed, Refused}
 use Rattle.rules.specs.Judge.{turned, judgeGiveUp}
 use Rattle.rules.specs.Apply.{reopened, rowsAfter, placesAfter, written}
 use Rattle.router.specs.declared.Step.{Step}
@@ -26,6 +27,10 @@ use Rattle.router.specs.declared.Ruling.the-variants.{Back, On}
 -- the view that the arrays hold
 abbrev pub heldView : List ℕ → List Bool → (count : ℕ) → List ℕ → (len : ℕ) → View
 heldView a o n l k = record { rows = rowsOf a o n; places = placesOf l k }
+
+-- the step of a refusal
+abbrev pub refusing : Refusal → (len : ℕ) → Step
+refusing r n = record { outcome = Refused r; len = n }
 
 -- a step with the outcome o over the places ps: the array holds the next ones
 pub record Placing (o : Outcome) (ps : List Place) (l : List ℕ) (s : Step) : Type 0 where

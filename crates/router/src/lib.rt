@@ -24,11 +24,12 @@ ghost use Rattle.lists.specs.Lists.{count as countOf};
 ghost use Rattle.table.specs.Table.{rowsOf, Columns};
 ghost use Rattle.places.specs.Places.{placeAt, placesOf, isOpen, isOwed};
 ghost use Rattle.places.specs.Places as places;
-ghost use Rattle.rules.specs.Judge.{late, judgeResponse, isAddEvent, judgeEvent, mayAsk, busy, judgeCommand, judgeKind, judgeMessage, judgeGiveUp, judgeReplaced};
-ghost use Rattle.rules.specs.Apply.{sent};
+ghost use Rattle.rules.specs.Judge.{late, judgeResponse, isAddEvent, judgeEvent, mayAsk, busy, turned, judgeCommand, judgeKind, judgeMessage, judgeGiveUp, judgeReplaced};
+ghost use Rattle.rules.specs.Apply.{place, sent};
 ghost use Rattle.message.specs.Message.{codeOf, partOf};
 ghost use Rattle.router.specs.Router.{viewOf, Lawful, Routing, Replacing};
-ghost use Rattle.router.specs.Steps.{heldView, Placing, Writing, Moving, Stepping, answerAt, Reopening, closedTo, ruled, Giving};
+ghost use Rattle.router.specs.Steps.{heldView, refusing, Placing, Writing, Moving, Stepping, answerAt, Reopening, closedTo, ruled, Giving};
+ghost use Rattle.router.specs.declared.Ruling.the-variants.{On};
 ghost use Rattle.router.specs.Start.{freshOver, startWith, startOf};
 
 // The list of places with its length, and the table's two columns with their length.
@@ -55,6 +56,16 @@ struct Step {
 enum Ruling {
     Back(u16),
     On,
+}
+
+// A refusal changes nothing.
+fn refuse(refusal: Refusal, len: usize) -> Step
+    ensures { λ r. ⌜ r ≡ refusing refusal len ⌝ }
+{
+    Step {
+        outcome: Outcome::Refused(refusal),
+        len,
+    }
 }
 
 // ---- Type 'FF'
@@ -109,10 +120,7 @@ fn late_in(list: &mut [u64; 48], len: usize, head: Head) -> Step
                 len: less,
             }
         }
-        Found::Nothing => Step {
-            outcome: Outcome::Refused(Refusal::StrayResponse),
-            len,
-        },
+        Found::Nothing => refuse(Refusal::StrayResponse, len),
     }
 }
 
@@ -130,20 +138,14 @@ fn response_in(
     ensures { λ s. ⌜ Moving (judgeResponse (placesOf (now (list .entry)) len) head coded) (heldView (now (addresses .entry)) (now (opens .entry)) count (now (list .entry)) len) (now (addresses .entry)) (now (opens .exit)) count (now (list .exit)) s ⌝ }
 {
     let Coded::Code(code) = coded else {
-        return Step {
-            outcome: Outcome::Refused(Refusal::NoResponseCode),
-            len,
-        };
+        return refuse(Refusal::NoResponseCode, len);
     };
     let Found::At(at) = answer_at(list, len, head.source, head.thread) else {
         return late_in(list, len, head);
     };
     let wait = places::place_at(list, len, at);
     if wait.asker != head.destination {
-        return Step {
-            outcome: Outcome::Refused(Refusal::WrongAsker),
-            len,
-        };
+        return refuse(Refusal::WrongAsker, len);
     }
     reopen(addresses, opens, count, wait, code);
     let less = places::remove(list, len, at);
@@ -261,6 +263,41 @@ fn rule_for<'a>(
     Ruling::On
 }
 
+fn turned_back(head: Head, code: u16) -> Outcome
+    ensures { λ r. ⌜ r ≡ turned head code ⌝ }
+{
+    Outcome::Turned {
+        asker: head.source,
+        asked: head.destination,
+        thread: head.thread,
+        code,
+    }
+}
+
+fn passed(head: Head) -> Outcome
+    ensures { λ r. ⌜ r ≡ ruled head On ⌝ }
+{
+    Outcome::Passed {
+        asker: head.source,
+        asked: head.destination,
+        kind: head.kind,
+        thread: head.thread,
+    }
+}
+
+// A passed command as a wait.
+fn wait_of(head: Head) -> Place
+    ensures { λ r. ⌜ r ≡ place (head .source) (head .destination) (head .kind) (head .thread) ⌝ }
+{
+    Place {
+        asker: head.source,
+        asked: head.destination,
+        kind: head.kind,
+        thread: head.thread,
+        owed: false,
+    }
+}
+
 // Does what the rules say: a response into the reply buffer, or one place more.
 fn command_in<'a>(
     addresses: &'a [u16; 16],
@@ -279,34 +316,13 @@ fn command_in<'a>(
     match rule_for(addresses, opens, count, list, len, head) {
         Ruling::Back(code) => {
             message::respond(reply, head.source, head.destination, head.thread, code);
-            Step {
-                outcome: Outcome::Turned {
-                    asker: head.source,
-                    asked: head.destination,
-                    thread: head.thread,
-                    code,
-                },
-                len,
-            }
+            let outcome = turned_back(head, code);
+            Step { outcome, len }
         }
         Ruling::On => {
-            let place = Place {
-                asker: head.source,
-                asked: head.destination,
-                kind: head.kind,
-                thread: head.thread,
-                owed: false,
-            };
-            let more = places::push(list, len, place);
-            Step {
-                outcome: Outcome::Passed {
-                    asker: head.source,
-                    asked: head.destination,
-                    kind: head.kind,
-                    thread: head.thread,
-                },
-                len: more,
-            }
+            let more = places::push(list, len, wait_of(head));
+            let outcome = passed(head);
+            Step { outcome, len: more }
         }
     }
 }
@@ -355,28 +371,16 @@ fn route_in(
     ensures { λ s. ⌜ Stepping (judgeMessage (heldView (now (addresses .entry)) (now (opens .entry)) count (now (list .entry)) len) (length (now (reply .entry))) (now (message .entry))) (heldView (now (addresses .entry)) (now (opens .entry)) count (now (list .entry)) len) (now (addresses .entry)) (now (opens .exit)) count (now (list .exit)) (now (reply .entry)) (now (reply .exit)) s ⌝ }
 {
     if reply.len() < 10 {
-        return Step {
-            outcome: Outcome::Refused(Refusal::BufferTooSmall),
-            len,
-        };
+        return refuse(Refusal::BufferTooSmall, len);
     }
     match message::read(message) {
-        Reading::Refused(refusal) => Step {
-            outcome: Outcome::Refused(refusal),
-            len,
-        },
+        Reading::Refused(refusal) => refuse(refusal, len),
         Reading::Message(head) => {
             if !table::is_listed(addresses, opens, count, tapa::handler(head.source)) {
-                return Step {
-                    outcome: Outcome::Refused(Refusal::NotInTable),
-                    len,
-                };
+                return refuse(Refusal::NotInTable, len);
             }
             if 7 < head.thread {
-                return Step {
-                    outcome: Outcome::Refused(Refusal::ThreadAbove7),
-                    len,
-                };
+                return refuse(Refusal::ThreadAbove7, len);
             }
             kind_in(addresses, opens, count, list, len, head, message, reply)
         }
@@ -390,22 +394,13 @@ fn give_in(list: &mut [u64; 48], len: usize, thread: u8, reply: &mut [u8]) -> St
     ensures { λ s. ⌜ Giving (placesOf (now (list .entry)) len) (length (now (reply .entry))) thread (now (list .exit)) (now (reply .entry)) (now (reply .exit)) s ⌝ }
 {
     if reply.len() < 10 {
-        return Step {
-            outcome: Outcome::Refused(Refusal::BufferTooSmall),
-            len,
-        };
+        return refuse(Refusal::BufferTooSmall, len);
     }
     if 7 < thread {
-        return Step {
-            outcome: Outcome::Refused(Refusal::ThreadAbove7),
-            len,
-        };
+        return refuse(Refusal::ThreadAbove7, len);
     }
     match places::innermost(list, len, thread) {
-        Found::Nothing => Step {
-            outcome: Outcome::Refused(Refusal::NothingToGiveUp),
-            len,
-        },
+        Found::Nothing => refuse(Refusal::NothingToGiveUp, len),
         Found::At(at) => {
             let wait = places::place_at(list, len, at);
             message::respond(
@@ -444,16 +439,10 @@ fn replaced_in(
 {
     let handler = tapa::handler(address);
     if !table::is_listed(addresses, opens, count, handler) {
-        return Step {
-            outcome: Outcome::Refused(Refusal::NotInTable),
-            len,
-        };
+        return refuse(Refusal::NotInTable, len);
     }
     if places::stands_in(list, len, handler) {
-        return Step {
-            outcome: Outcome::Refused(Refusal::StandsInAWait),
-            len,
-        };
+        return refuse(Refusal::StandsInAWait, len);
     }
     table::set_open(addresses, opens, count, handler, false);
     let less = places::drop_owed(list, len, handler);

@@ -7,19 +7,31 @@ use borrow.Author.Needs.{needs}
 use Rattle.router.proofs.give_in.Statement.{statement}
 use Rattle.router.proofs.give_in.Tie as tie
 
+refuse-requires : tie.Need-refuse-requires
+refuse-requires c κs = search needs
+
 returns : tie.Need-returns
-returns c = λ rows. let a = c .before .before .args in
-    unwritten _ _ (c .before .before .pre) _ _ BufferTooSmall (give-small rows (a .list .now) (a .len) _ _ (c .if1 .taken))
+returns c = λ rows.
+    let s = c .before .before .before in
+    unwritten _ _ (s .pre) _ _ BufferTooSmall _ (c .refuse .ensures) (give-small rows (s .args .list .now) (s .args .len) _ _ (c .before .if1 .taken))
+
+refuse-requires-2 : tie.Need-refuse-requires-2
+refuse-requires-2 c κs = search needs
 
 returns-2 : tie.Need-returns-2
-returns-2 c = λ rows. let a = c .before .before .before .args in
-    unwritten _ _ (c .before .before .before .pre) _ _ ThreadAbove7 (give-high rows (a .list .now) (a .len) _ _ (c .before .if1 .left) (c .if2 .taken))
+returns-2 c = λ rows.
+    let s = c .before .before .before .before in
+    unwritten _ _ (s .pre) _ _ ThreadAbove7 _ (c .refuse2 .ensures)
+    (give-high rows (s .args .list .now) (s .args .len) _ _ (c .before .before .if1 .left) (c .before .if2 .taken))
 
 innermost-requires : tie.Need-innermost-requires
 innermost-requires c κs = search needs
 
 enum-told : tie.Need-enum-told
 enum-told c = search needs
+
+refuse-requires-3 : tie.Need-refuse-requires-3
+refuse-requires-3 c κs = search needs
 
 enum-known-at : tie.Need-enum-known-at
 enum-known-at c = search needs
@@ -34,9 +46,11 @@ owe-requires : tie.Need-owe-requires
 owe-requires c κs = search needs
 
 returns-3 : tie.Need-returns-3
-returns-3 c = λ rows. let a = c .before .before .before .before .before .before .before .args in
-    unwritten _ _ (c .before .before .before .before .before .before .before .pre) _ _ NothingToGiveUp
-    (give-none rows (a .list .now) (a .len) _ (a .thread) (c .before .before .before .before .before .if1 .left) (c .before .before .before .before .if2 .left) (sym (c .before .before .innermost .ensures) ∙ c .enum-told .given .1))
+returns-3 c = λ rows.
+    let s = c .before .before .before .before .before .before .before .before in
+    unwritten _ _ (s .pre) _ _ NothingToGiveUp _ (c .refuse3 .ensures)
+    (give-none rows (s .args .list .now) (s .args .len) _ (s .args .thread) (c .before .before .before .before .before .before .if1 .left) (c .before .before .before .before .before .if2 .left)
+    (sym (c .before .before .before .innermost .ensures) ∙ c .before .enum-told .given .1))
 
 same-length : tie.Need-same-length
 same-length c = search needs
@@ -54,10 +68,13 @@ pub give-in-spec : {M : Type 1} → statement M
 give-in-spec =
     tie.close
     (tie.spec
+    refuse-requires
     returns
+    refuse-requires-2
     returns-2
     innermost-requires
     enum-told
+    refuse-requires-3
     enum-known-at
     place-at-requires
     respond-requires

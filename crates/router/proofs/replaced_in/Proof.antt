@@ -14,19 +14,25 @@ handler-requires c κs = search needs
 is-listed-requires : tie.Need-is-listed-requires
 is-listed-requires c κs = search needs
 
+refuse-requires : tie.Need-refuse-requires
+refuse-requires c κs = search needs
+
 returns : tie.Need-returns
-returns c = let s = c .before .before .before .before in
-    unmoved _ _ (s .pre .0) _ _ _ (s .pre .1) _ NotInTable
-    (replaced-unknown _ _ _ (c .before .before .before .handler .ensures) (sym (c .before .is-listed .ensures) ∙ not-true _ (c .if1 .taken)))
+returns c = let s = c .before .before .before .before .before in
+    unmoved _ _ (s .pre .0) _ _ _ (s .pre .1) _ NotInTable _ (c .refuse .ensures)
+    (replaced-unknown _ _ _ (c .before .before .before .before .handler .ensures) (sym (c .before .before .is-listed .ensures) ∙ not-true _ (c .before .if1 .taken)))
 
 stands-in-requires : tie.Need-stands-in-requires
 stands-in-requires c κs = search needs
 
+refuse-requires-2 : tie.Need-refuse-requires-2
+refuse-requires-2 c κs = search needs
+
 returns-2 : tie.Need-returns-2
-returns-2 c = let s = c .before .before .before .before .before .before .before in
-    unmoved _ _ (s .pre .0) _ _ _ (s .pre .1) _ StandsInAWait
-    (replaced-waits _ _ _ (c .before .before .before .before .before .before .handler .ensures) (sym (c .before .before .before .before .is-listed .ensures) ∙ not-false _ (c .before .before .before .if1 .left))
-    (sym (c .before .stands-in .ensures) ∙ c .if2 .taken))
+returns-2 c = let s = c .before .before .before .before .before .before .before .before in
+    unmoved _ _ (s .pre .0) _ _ _ (s .pre .1) _ StandsInAWait _ (c .refuse2 .ensures)
+    (replaced-waits _ _ _ (c .before .before .before .before .before .before .before .handler .ensures) (sym (c .before .before .before .before .before .is-listed .ensures) ∙ not-false _ (c .before .before .before .before .if1 .left))
+    (sym (c .before .before .stands-in .ensures) ∙ c .before .if2 .taken))
 
 set-open-requires : tie.Need-set-open-requires
 set-open-requires c κs = search needs
@@ -46,8 +52,10 @@ replaced-in-spec =
     (tie.spec
     handler-requires
     is-listed-requires
+    refuse-requires
     returns
     stands-in-requires
+    refuse-requires-2
     returns-2
     set-open-requires
     drop-owed-requires

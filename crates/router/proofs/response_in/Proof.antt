@@ -14,9 +14,12 @@ enum-known-coded c = search needs
 enum-told : tie.Need-enum-told
 enum-told c = search needs
 
+refuse-requires : tie.Need-refuse-requires
+refuse-requires c κs = search needs
+
 returns : tie.Need-returns
-returns c = let s = c .before .before in
-    unmoved _ _ (s .pre .0) _ _ _ (s .pre .1) _ NoResponseCode (no-code _ _ _ (c .enum-told .given .1))
+returns c = let s = c .before .before .before in
+    unmoved _ _ (s .pre .0) _ _ _ (s .pre .1) _ NoResponseCode _ (c .refuse .ensures) (no-code _ _ _ (c .before .enum-told .given .1))
 
 answer-at-requires : tie.Need-answer-at-requires
 answer-at-requires c κs = search needs
@@ -40,11 +43,15 @@ returns-2 c = let a = c .before .before .before .before .before .before .before 
 place-at-requires : tie.Need-place-at-requires
 place-at-requires c κs = search needs
 
+refuse-requires-2 : tie.Need-refuse-requires-2
+refuse-requires-2 c κs = search needs
+
 returns-3 : tie.Need-returns-3
-returns-3 c = let a = c .before .before .before .before .before .before .before .before .before .before .before .before .before .args in
-    let x = answer-some (a .list .now) (a .len) (a .head .source) (a .head .thread) _ (sym (c .before .before .before .before .before .before .before .before .answer-at .ensures) ∙ c .before .before .before .before .before .before .at .given .1) in
-    unmoved _ _ (c .before .before .before .before .before .before .before .before .before .before .before .before .before .pre .0) _ _ _ (c .before .before .before .before .before .before .before .before .before .before .before .before .before .pre .1) _ WrongAsker
-    (wrong-asker _ _ _ _ (c .before .before .before .before .before .before .before .before .before .before .before .coded .given .1) _ (x .it ∙ ap some (sym (c .before .before .before .place-at .ensures))) (c .if1 .taken))
+returns-3 c = let s = c .before .before .before .before .before .before .before .before .before .before .before .before .before .before in
+    let a = s .args in
+    let x = answer-some (a .list .now) (a .len) (a .head .source) (a .head .thread) _ (sym (c .before .before .before .before .before .before .before .before .before .answer-at .ensures) ∙ c .before .before .before .before .before .before .before .at .given .1) in
+    unmoved _ _ (s .pre .0) _ _ _ (s .pre .1) _ WrongAsker _ (c .refuse2 .ensures)
+    (wrong-asker _ _ _ _ (c .before .before .before .before .before .before .before .before .before .before .before .before .coded .given .1) _ (x .it ∙ ap some (sym (c .before .before .before .before .place-at .ensures))) (c .before .if1 .taken))
 
 reopen-requires : tie.Need-reopen-requires
 reopen-requires c κs = search needs
@@ -65,6 +72,7 @@ response-in-spec =
     (tie.spec
     enum-known-coded
     enum-told
+    refuse-requires
     returns
     answer-at-requires
     enum-known-at
@@ -72,6 +80,7 @@ response-in-spec =
     late-in-requires
     returns-2
     place-at-requires
+    refuse-requires-2
     returns-3
     reopen-requires
     remove-requires
