@@ -19,7 +19,7 @@ response-in-requires c κs = search needs
 returns : tie.Need-returns
 returns c = let s = c .before .before .before .before .before .before .before .before .before in
     response-steps _ (s .args .head) _ _ _ _ _ _ _ _ _ (is-response _ _ _ (c .before .before .before .before .before .if1 .taken))
-    (c .before .before .before .response-code .ensures ∙ ap codeOf (c .before .before .before .before .data-part .ensures)) (c .response-in .ensures)
+    (c .before .before .before .response-code .ensures ∙ ap codeOf (c .before .before .before .before .data-part .ensures .bytes)) (c .response-in .ensures)
 
 is-add-event-requires : tie.Need-is-add-event-requires
 is-add-event-requires c κs = search needs
