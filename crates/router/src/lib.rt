@@ -22,7 +22,7 @@ ghost use Prim.Native.Nat.{_≤_};
 ghost use lib.ListN.{length, take};
 ghost use Rattle.lists.specs.Lists.{count as countOf};
 ghost use Rattle.table.specs.Table.{rowsOf, Columns};
-ghost use Rattle.places.specs.Places.{placeAt, placesOf, isOpen, isOwed};
+ghost use Rattle.places.specs.Places.{placesOf, isOpen, isOwed};
 ghost use Rattle.places.specs.Places as places;
 ghost use Rattle.rules.specs.Judge.{late, judgeResponse, isAddEvent, judgeEvent, mayAsk, busy, turned, judgeCommand, judgeKind, judgeMessage, judgeGiveUp, judgeReplaced};
 ghost use Rattle.rules.specs.Apply.{place, sent};
@@ -30,7 +30,7 @@ ghost use Rattle.message.specs.Message.{codeOf, partOf};
 ghost use Rattle.router.specs.Router.{viewOf, Lawful, Routing, Replacing};
 ghost use Rattle.router.specs.Steps.{heldView, refusing, Placing, Writing, Moving, Stepping, answerAt, Reopening, closedTo, ruled, Giving};
 ghost use Rattle.router.specs.declared.Ruling.the-variants.{On};
-ghost use Rattle.router.specs.Start.{freshOver, startWith, startOf};
+ghost use Rattle.router.specs.Start.{startWith, startOf};
 
 // The list of places with its length, and the table's two columns with their length.
 pub struct Router {

@@ -1,15 +1,14 @@
 -- `router::rule_for` meets its contract: the rules a to f in their order. Assumes nothing.
 use Prim.Native.Nat.{ℕ}
-use mathlib.Core.Path.{_≡_, refl, sym, ap, _∙_}
+use mathlib.Core.Path.{_≡_, sym, ap, _∙_}
 use mathlib.Core.Bool.{Bool, true, false}
-use native.Mathlib.Omega.{arith}
 use borrow.Author.Tests.{not-true, not-false}
 use Rattle.tapa.specs.Address.{categoryOf, handlerOf}
 use Rattle.tapa.specs.Types.{known}
 use Rattle.table.specs.Table.{listed}
 use Rattle.places.proofs.Points.{len}
 use Rattle.rules.specs.View.{View}
-use Rattle.rules.specs.Judge.{mayAsk, busy}
+use Rattle.rules.specs.Judge.{busy}
 use Rattle.router.specs.Steps.{heldView, closedTo}
 use Rattle.router.proofs.Commands.{rule-a, rule-b, rule-c, rule-d, rule-e, rule-f, no-rule}
 use borrow.Author.Needs.{needs}
