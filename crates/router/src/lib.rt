@@ -629,3 +629,23 @@ pub fn start(rows: &[Row]) -> Started
 {
     start_with(table::read_rows(rows))
 }
+
+// Lends the first rows of an array. No slice of structs stands in its signature, so that
+// whoever calls it needs no proof by hand.
+fn lend(rows: [Row; 17], count: usize) -> Started
+    requires { ⌜ count ≤ 17 ⌝ }
+    ensures { λ r. ⌜ r ≡ startOf (take count rows) ⌝ }
+{
+    start(&rows[..count])
+}
+
+// A start with the first rows of one's own. There is one place more than a table has, so that a
+// table that is too long can be lent too.
+pub fn start_own(rows: [Row; 17], count: usize) -> Started
+    ensures { λ r. ⌜ r ≡ startOf (take count rows) ⌝ }
+{
+    if 17 < count {
+        return lend(rows, 17);
+    }
+    lend(rows, count)
+}
