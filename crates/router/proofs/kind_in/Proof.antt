@@ -1,6 +1,5 @@
 -- `router::kind_in` meets its contract: by type, each as its own function shows. Assumes nothing.
-use mathlib.Core.Path.{_≡_, refl, sym, ap, _∙_}
-use borrow.Author.Tests.{not-true, not-false}
+use mathlib.Core.Path.{refl, sym, ap, _∙_}
 use Rattle.message.specs.Message.{codeOf}
 use Rattle.router.proofs.Messages.{is-response, is-event, is-command, response-steps, event-steps, command-steps}
 use borrow.Author.Needs.{needs}
