@@ -1,14 +1,14 @@
 -- What a start hands back: over an accepted table a fresh router that keeps the law.
-use mathlib.Core.Path.{_≡_, ap, _∙_}
+use mathlib.Core.Path.{_≡_, refl, ap, _∙_}
 use mathlib.Core.List.{List, reverse}
 use Rattle.tapa.specs.declared.Refusal.the-variants.{RowCountOrShape}
 use Rattle.table.specs.declared.Row.{Row}
 use Rattle.table.specs.declared.Rows.{Rows}
 use Rattle.table.specs.declared.Checked.{Checked}
 use Rattle.table.specs.declared.Checked.the-variants.{Accepted, Refused}
-use Rattle.table.specs.Table.{heldRows, Held, judgeRows, judgeTable, keptBy, rowsRead, Proper}
-use Rattle.table.proofs.Judged.{accepted}
-use Rattle.table.proofs.Read.{read-held, read-rows, judge-read}
+use Rattle.table.specs.Table.{heldRows, Held, judgeRows, judgeTable, keptBy, rowsRead, noRows, Proper}
+use Rattle.table.proofs.Judged.{accepted, none-proper}
+use Rattle.table.proofs.Read.{none-held, read-held, read-rows, judge-read}
 use Rattle.places.proofs.Points as points
 use Rattle.rules.specs.View.{fresh}
 use Rattle.rules.proofs.Lists.{split, differ}
@@ -32,6 +32,14 @@ fresh-lawful t h p = record {
   conduct = conduct-fresh (heldRows t);
 }
 
+-- 'the law shown of every state that a start .. hands back': also of the blank router that a refused table leaves
+pub start-law : (t : Rows) → Held t → Lawful (startWith t .router)
+start-law t h = go (judgeRows t) refl
+  where
+    go : (c : Checked) → judgeRows t ≡ c → Lawful (freshOver (keptBy c t))
+    go Accepted e = fresh-lawful t h (rows-proper t e)
+    go (Refused r) e = fresh-lawful noRows none-held none-proper
+
 -- of rows by value
 module _ (t : Rows) (e : judgeRows t ≡ Accepted) where
   start-router : startWith t .router ≡ freshOver t
@@ -41,7 +49,7 @@ module _ (t : Rows) (e : judgeRows t ≡ Accepted) where
   start-view = ap viewOf start-router
 
   pub start-lawful : Held t → Lawful (startWith t .router)
-  start-lawful h = rw start-router (fresh-lawful t h (rows-proper t e))
+  start-lawful h = start-law t h
 
 -- of lent rows: the view's rows are these, the last first
 module _ (rows : List Row) (e : judgeTable rows ≡ Accepted) where
@@ -51,5 +59,5 @@ module _ (rows : List Row) (e : judgeTable rows ≡ Accepted) where
   pub lent-view : viewOf (startOf rows .router) ≡ fresh (reverse rows)
   lent-view = start-view (rowsRead rows) lent-answer ∙ ap fresh (read-rows rows (accepted rows e .few))
 
-  pub lent-lawful : Lawful (startOf rows .router)
-  lent-lawful = start-lawful (rowsRead rows) lent-answer (read-held rows)
+pub lent-law : (rows : List Row) → Lawful (startOf rows .router)
+lent-law rows = start-law (rowsRead rows) (read-held rows)

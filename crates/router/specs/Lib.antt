@@ -1,3 +1,4 @@
 pub mod Router
 pub mod Steps
 pub mod Start
+pub mod Sending

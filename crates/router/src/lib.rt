@@ -21,15 +21,16 @@ ghost use mathlib.Core.Path.{_≡_};
 ghost use Prim.Native.Nat.{_≤_};
 ghost use lib.ListN.{length, take};
 ghost use Rattle.lists.specs.Lists.{count as countOf};
-ghost use Rattle.table.specs.Table.{rowsOf, Columns};
+ghost use Rattle.table.specs.Table.{rowsOf, Columns, Held};
 ghost use Rattle.places.specs.Places.{placesOf, isOpen, isOwed};
 ghost use Rattle.places.specs.Places as places;
 ghost use Rattle.rules.specs.Judge.{late, judgeResponse, isAddEvent, judgeEvent, mayAsk, busy, turned, judgeCommand, judgeKind, judgeMessage, judgeGiveUp, judgeReplaced};
-ghost use Rattle.rules.specs.Apply.{place, sent};
+ghost use Rattle.rules.specs.Apply.{place};
 ghost use Rattle.message.specs.Message.{codeOf, partOf};
 ghost use Rattle.router.specs.Router.{viewOf, Lawful, Routing, Replacing};
 ghost use Rattle.router.specs.Steps.{heldView, refusing, Placing, Writing, Moving, Stepping, answerAt, Reopening, closedTo, ruled, Giving};
 ghost use Rattle.router.specs.declared.Ruling.the-variants.{On};
+ghost use Rattle.router.specs.Sending.{Sending, FirstTen};
 ghost use Rattle.router.specs.Start.{startWith, startOf};
 
 // The list of places with its length, and the table's two columns with their length.
@@ -571,7 +572,7 @@ impl Router {
 
 // The ten bytes of a response that the router made, or all of a buffer that is smaller.
 fn first_ten(reply: &[u8]) -> &[u8]
-    ensures { λ r. ⌜ now r ≡ take 10 (now (reply .entry)) ⌝ }
+    ensures { λ r. ⌜ FirstTen (reply .entry) r ⌝ }
 {
     if reply.len() < 10 {
         return reply;
@@ -582,7 +583,7 @@ fn first_ten(reply: &[u8]) -> &[u8]
 // What goes on after an outcome: a part of the message or of the reply buffer, never a copy.
 // Where nothing goes on, the part is empty.
 pub fn part_to_send<'a>(outcome: Outcome, message: &'a [u8], reply: &'a [u8]) -> &'a [u8]
-    ensures { λ r. ⌜ now r ≡ sent outcome (now (message .entry)) (now (reply .entry)) ⌝ }
+    ensures { λ r. ⌜ Sending outcome (message .entry) (reply .entry) r ⌝ }
 {
     match outcome {
         Outcome::Passed { .. } => message,
@@ -606,6 +607,7 @@ pub struct Started {
 
 // A fresh router over rows by value.
 pub fn start_with(rows: Rows) -> Started
+    requires { ⌜ Held rows ⌝ }
     ensures { λ r. ⌜ r ≡ startWith rows ⌝ }
 {
     let set = table::set_up_with(rows);

@@ -31,7 +31,7 @@ thirteen = refl
 module _ (rows : List Row) (some : 1 ≤ length rows) (few : length rows ≤ 16)
     (shapes : All (λ (r : Row). shaped (r .address) ≡ true) rows) (once : (h : ℕ) → count (isAt h) rows ≤ 1) where
   pub up-to-four : count isMulti rows ≤ 4 → judgeTable rows ≡ Accepted
-  up-to-four l = proper rows (record { some = some; few = few; shapes = shapes; once = once; multis = l })
+  up-to-four l = proper rows some (record { few = few; shapes = shapes; once = once; multis = l })
 
   pub over-four : 4 < count isMulti rows → judgeTable rows ≡ Refused TooManyMulti
   over-four l = judge-multi rows some few (all-shaped rows shapes) (apart rows once) l

@@ -98,6 +98,17 @@ never false r rest n e = (refl, e)
 refused : (r : Refusal) → Refused r ≡ Accepted → ⊥
 refused r e = let z : _≡_ {A = ℕ} 0 1 = cc in omega arith
 
+-- an accepted table has a row
+pub has-row : (rows : List Row) → judgeTable rows ≡ Accepted → 1 ≤ length rows
+unfolding judgeTable
+has-row rows e =
+    let a = never (ltb (length rows) 1 || ltb 16 (length rows)) _ _ (refused RowCountOrShape) e in
+    ltb-false (length rows) 1 (either (ltb (length rows) 1) (ltb 16 (length rows)) (a .0) .0)
+
+pub none-proper : Proper []
+none-proper = record { few = omega arith; shapes = tt; once = λ h. omega arith; multis = omega arith }
+
+-- and is proper
 pub accepted : (rows : List Row) → judgeTable rows ≡ Accepted → Proper rows
 unfolding judgeTable
 accepted rows e =
@@ -107,15 +118,14 @@ accepted rows e =
     let d = never (ltb 4 (count isMulti rows)) _ _ (refused TooManyMulti) (c .1) in
     let n = either (ltb (length rows) 1) (ltb 16 (length rows)) (a .0) in
     record {
-      some = ltb-false (length rows) 1 (n .0);
       few = ltb-false 16 (length rows) (n .1);
       shapes = shaped-all rows (b .0);
       once = once rows (c .0);
       multis = ltb-false 4 (count isMulti rows) (d .0);
     }
 
-pub proper : (rows : List Row) → Proper rows → judgeTable rows ≡ Accepted
-proper rows p = judge-accepted rows (p .some) (p .few) (all-shaped rows (p .shapes)) (apart rows (p .once)) (p .multis)
+pub proper : (rows : List Row) → 1 ≤ length rows → Proper rows → judgeTable rows ≡ Accepted
+proper rows l p = judge-accepted rows l (p .few) (all-shaped rows (p .shapes)) (apart rows (p .once)) (p .multis)
 
 -- a row of such a table names its handler
 pub shaped-handler : (a : ℕ) → shaped a ≡ true → handlerOf a ≡ a

@@ -59,7 +59,8 @@ module _ (h : ℕ) (b : Bool) where
       )
 
   pub set-proper : (rows : List Row) → Proper rows → Proper (setOpened h b rows)
-  set-proper rows p = accepted (setOpened h b rows) (set-judge rows ∙ proper rows p)
+  set-proper [] p = p
+  set-proper (r ∷ rows) p = accepted (setOpened h b (r ∷ rows)) (set-judge (r ∷ rows) ∙ proper (r ∷ rows) (omega arith) p)
 
   pub set-listed : (g : ℕ) (rows : List Row) → listed g (setOpened h b rows) ≡ listed g rows
   set-listed g rows = set-some (isAt g) (λ r. refl) rows

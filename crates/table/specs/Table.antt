@@ -71,9 +71,9 @@ judgeTable rows =
     ∷ [])
     Accepted
 
--- what an accepted table is: '1 to 16 rows', each of them shaped, no handler twice, 'at most 4 multi rows'
+-- what an accepted table is, but for having a row at all: 'to 16 rows', each of them shaped, no handler twice, 'at most 4 multi rows'.
+-- So the rows that a refused table leaves, none, are proper too, and the law holds of every state that a start hands back.
 pub record Proper (rows : List Row) : Type 0 where
-  pub some : 1 ≤ length rows
   pub few : length rows ≤ 16
   pub shapes : All (λ (r : Row). shaped (r .address) ≡ true) rows
   pub once : (h : ℕ) → count (isAt h) rows ≤ 1

@@ -33,7 +33,8 @@ use denote.Triple.Table.{entered, cited}
 use denote.Triple.Walked.{says, Stays, stay-none-slice, walkOf, goes-none-slice, Walks, ends-at, walked, walk-meets}
 use denote.Exit.{yes}
 use denote.Triple.Clauses.{ensured, lasts}
-use Rattle.table.specs.Table.{rowsRead}
+use Rattle.table.specs.Table.{rowsRead, Held}
+use Rattle.table.proofs.Read.{read-held}
 use Rattle.router.specs.Start.{startWith, startOf}
 use Rattle.table.specs.declared.Row.{Row}
 use Rattle.table.specs.declared.Rows.{Rows}
@@ -101,8 +102,8 @@ module _ {M : Type 1} (𝓤 : URA M) (H : Heap 𝓤) (A : Atoms 𝓤) (W : Given
   abbrev to-with : Rows → Val → With 𝓤 H A mem run .Ghost
   to-with t u = ((tt, tt, tt, (t, tt), (u ∷ [], tt)), tt)
 
-  goes-with : (t : Rows) (u : Val) → ent 𝓤 (sem 𝓤 H A (Q .own t (u ∷ []))) (With 𝓤 H A mem run .pre (to-with t u))
-  goes-with t u = qed W (‵ (Q .own t (u ∷ [])) ∷ []) ∵ nothing ! $ move ! (1 ∷ 0 ∷ []) $ join ! $ nothing ! $ join ! $ frame ! $ done !
+  goes-with : (t : Rows) (u : Val) → Held t → ent 𝓤 (sem 𝓤 H A (Q .own t (u ∷ []))) (With 𝓤 H A mem run .pre (to-with t u))
+  goes-with t u h = qed W (‵ (Q .own t (u ∷ [])) ∷ []) ∵ says ! h $ nothing ! $ frame ! $ frame ! $ done !
 
   exits : (z : Started) (u : Val) → z ≡ startOf (s .now) → ent 𝓤 (⋆ 𝓤 H A (‵ (Z.the-row .own z (u ∷ [])) ∷ (‵ (flft κ q) ⊛ ‵ ftrue) ∷ ‵ Own ∷ [])) (Post u)
   exits z u e =
@@ -122,7 +123,7 @@ module _ {M : Type 1} (𝓤 : URA M) (H : Heap 𝓤) (A : Atoms 𝓤) (W : Given
         -- [what the rows own; the token; what the slice owns; room for _2; …; _1; …; room for _0; …]
         peeks ! Q (Is Q) (shows 𝓤 H A Q) t (u ∷ []) (λ is.
         land ! (from ! (stop !)) (init ! 3 refl (LL.lawful S.the-type S′.the-laws 𝓤 H A W .typed t _ is .0)) $
-        use1 W (raw (With 𝓤 H A mem run .pre (to-with t u))) (goes-with t u) $
+        use1 W (raw (With 𝓤 H A mem run .pre (to-with t u))) (goes-with t u (rw e (read-held (s .now)))) $
         calls-at ! fm (With 𝓤 H A mem run) known-with (to-with t u) (and-then ! (load ! (from ! (stop !)) (look ! 3 refl)) (no-more !)) (λ u′.
         use1 W (later (some (λ (z : Started). (‵ ftrue ⊛ ‵ (Z.the-row .own z (u′ ∷ []))) ⊛ raw (ensured 𝓤 H A start-with.ended (start-with.clauses 𝓤 H A mem run) tt (t, tt) tt z)))) (id⊢ 𝓤 _) $ await ! tt $ pick ! (λ z.
         split ! $ move ! (1 ∷ []) $ use1 W (raw (fact 𝓤 (z ≡ startWith t))) (with-of 𝓤 H A mem run t z) $ heard ! (z ≡ startWith t) (λ e′. split ! $ drop ! $
