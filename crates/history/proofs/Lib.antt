@@ -1,7 +1,9 @@
 pub mod Lists
+pub mod Law
 pub mod Told
 pub mod Ends
 pub mod Fates
 pub mod Totals
 pub mod Marks
+pub mod Promise
 pub mod Example

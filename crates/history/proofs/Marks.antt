@@ -23,8 +23,9 @@ use Rattle.rules.proofs.Allowed.{Allowed, allowed}
 use Rattle.rules.proofs.After.{exact-once}
 use Rattle.history.specs.History.{Step, Entry, viewAfter, history, Sent, starts, sent, lives, livesOn, standing, meets, ends, ended, endsOne}
 use Rattle.history.specs.Marks.{addressed, isReply, fits, replacedSince, used, Marked, Honest, Bears}
+use Rattle.history.proofs.Law.{conduct-after}
 use Rattle.history.proofs.Lists.{in-either, in-keep, in-count, in-one, in-all}
-use Rattle.history.proofs.Told.{conduct-after, sent-before, older, stood, told, stands-as}
+use Rattle.history.proofs.Told.{sent-before, older, stood, told, stands-as}
 use Rattle.history.proofs.Ends.{one-ended, stood-in}
 
 -- ---- the mark's address is that of the wait or of the owing

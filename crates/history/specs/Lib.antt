@@ -1,2 +1,3 @@
 pub mod History
 pub mod Marks
+pub mod Promise
