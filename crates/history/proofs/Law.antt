@@ -1,7 +1,5 @@
 -- The law of the rules after any steps from any table, and the bound from any accepted one.
-use Prim.Native.Nat.{_≤_}
 use mathlib.Core.List.{List, [], _∷_}
-use lib.ListN.{length}
 use Rattle.lists.specs.Lists.{All}
 use Rattle.table.specs.declared.Row.{Row}
 use Rattle.table.specs.Table.{Proper}

@@ -5,9 +5,7 @@ use mathlib.Core.List.{List, [], _∷_}
 use Rattle.table.specs.declared.Row.{Row}
 use Rattle.table.specs.Table.{Proper}
 use Rattle.rules.specs.View.{View}
-use Rattle.rules.specs.declared.Outcome.{Outcome}
 use Rattle.rules.specs.Judge.{judge}
-use Rattle.rules.specs.Apply.{applied}
 use Rattle.rules.proofs.Words.{worded}
 use Rattle.history.specs.History.{Step, Entry, viewAfter, history}
 use Rattle.history.specs.Marks.{Honest}

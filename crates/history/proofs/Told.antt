@@ -20,8 +20,6 @@ use Rattle.rules.specs.Judge.{judge}
 use Rattle.rules.specs.Apply.{place, placesAfter}
 use Rattle.rules.specs.Conduct.{Conduct}
 use Rattle.rules.proofs.Lists.{split, clash, differ, eqb-same, without-same, All-map}
-use Rattle.rules.proofs.Allowed.{allowed}
-use Rattle.rules.proofs.Kept.{conduct-kept, conduct-fresh}
 use Rattle.rules.proofs.After.{exact-once}
 use Rattle.history.specs.History.{Step, Entry, viewAfter, history, Sent, starts, sent, lives, livesOn, standing, meets, openIn, owedIn, commands, debts}
 use Rattle.history.proofs.Law.{conduct-after}

@@ -1,7 +1,6 @@
 -- An outcome says what its call said: its addresses, type and thread are those of the message's bytes, of the give up, of the replaced call.
 use Prim.Native.Nat.{ℕ}
 use mathlib.Core.Path.{_≡_, refl}
-use mathlib.Core.Bool.{true}
 use mathlib.Core.List.{List}
 use mathlib.Core.Option.{Option, none, some}
 use lib.Dec.{eqb, ltb}
