@@ -46,7 +46,9 @@ fn word_at(s: &[u8], i: usize) -> u16
     requires { ⌜ i + 1 < length (now s) ⌝ }
     ensures { λ r. ⌜ r ≡ wordAt (now (s .entry)) i ⌝ }
 {
-    tapa::pair(s[i], s[i + 1])
+    let high = s[i];
+    let low = s[i + 1];
+    tapa::pair(high, low)
 }
 
 fn read_at(s: &[u8], at: usize) -> Read

@@ -1,6 +1,6 @@
 -- What a test of a list, and a count, say of each other; both are the same in a list that is turned round.
-use Prim.Native.Nat.{ℕ, _+_, _≤_}
-use mathlib.Core.Path.{_≡_, refl, sym, ap, _∙_}
+use Prim.Native.Nat.{ℕ, _+_}
+use mathlib.Core.Path.{_≡_, refl, _∙_}
 use mathlib.Core.Bool.{Bool, true, false, _||_, or-false}
 use mathlib.Core.List.{List, [], _∷_, reverseAux, reverse}
 use native.Mathlib.Omega.{arith}

@@ -1,7 +1,7 @@
 -- Sums at the desk, C12: 'four multi rows: accepted; five: 13.'
 use Prim.Native.Nat.{ℕ, _≤_, _<_}
 use mathlib.Core.Path.{_≡_, refl}
-use mathlib.Core.Bool.{true, false}
+use mathlib.Core.Bool.{true}
 use mathlib.Core.List.{List, [], _∷_}
 use lib.ListN.{length}
 use Rattle.lists.specs.Lists.{count, All}

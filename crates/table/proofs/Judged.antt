@@ -1,13 +1,15 @@
 -- The outcomes of a table's checks, each from the tests that lead to it; and what an accepted table is.
-use Prim.Native.Nat.{ℕ, zero, suc, _+_, _≤_, _<_}
-use mathlib.Core.Path.{_≡_, refl, sym, ap, _∙_}
-use mathlib.Core.Bool.{Bool, true, false, not, _||_, cond}
+use Prim.Native.Nat.{ℕ, _+_, _*_, _/_, _%_, _≤_, _<_}
+use mathlib.Core.Path.{_≡_, refl, sym, _∙_}
+use mathlib.Core.Bool.{Bool, true, false, not, _&&_, _||_, cond}
 use mathlib.Core.List.{List, [], _∷_, reverse}
 use native.Mathlib.Omega.{arith}
-use lib.Dec.{eqb, ltb}
+use lib.Dec.{eqb, leb, ltb}
 use lib.ListN.{length, length-reverse}
-use borrow.Author.Tests.{lt-ltb, le-ltb, ltb-false, eqb-true, eq-eqb, not-false}
-use Rattle.lists.specs.Lists.{one, checks, count, someOf, All}
+use borrow.Author.Tests.{lt-ltb, le-ltb, ltb-false, leb-true, eqb-true, eq-eqb, not-false}
+use Rattle.lists.specs.Lists.{one, count, someOf, All}
+use Rattle.tapa.specs.Address.{categoryOf, subAddressOf, handlerOf}
+use Rattle.tapa.specs.Codes.{eventHandler}
 use Rattle.tapa.specs.declared.Refusal.{Refusal}
 use Rattle.tapa.specs.declared.Refusal.the-variants.{RowCountOrShape, Repeat, TooManyMulti}
 use Rattle.table.specs.declared.Row.{Row}
@@ -114,6 +116,16 @@ accepted rows e =
 
 pub proper : (rows : List Row) → Proper rows → judgeTable rows ≡ Accepted
 proper rows p = judge-accepted rows (p .some) (p .few) (all-shaped rows (p .shapes)) (apart rows (p .once)) (p .multis)
+
+-- a row of such a table names its handler
+pub shaped-handler : (a : ℕ) → shaped a ≡ true → handlerOf a ≡ a
+unfolding shaped subAddressOf handlerOf
+shaped-handler a e = go (leb (categoryOf a) 7) (leb (a % 256) 127) refl e
+  where
+    go : (x y : Bool) → leb (a % 256) 127 ≡ y → x && (y && (not (eqb (categoryOf a) 7) || eqb a eventHandler)) ≡ true → a / 256 * 256 + a % 256 % 128 ≡ a
+    go true true f g = omega (arith, leb-true (a % 256) 127 f)
+    go true false f g = absurd (let z : _≡_ {A = ℕ} 0 1 = cc in omega arith)
+    go false y f g = absurd (let z : _≡_ {A = ℕ} 0 1 = cc in omega arith)
 
 -- ---- the order of the rows does not matter
 

@@ -4,12 +4,11 @@ use mathlib.Core.Path.{_≡_, refl, sym, ap, _∙_}
 use mathlib.Core.Bool.{Bool, true, false, _&&_, _||_, cond, or-false}
 use mathlib.Core.List.{List, [], _∷_}
 use native.Mathlib.Omega.{arith}
-use lib.Dec.{eqb, ltb}
 use lib.ListN.{length}
 use borrow.Author.Tests.{eqb-true, ne-eqb}
-use Rattle.lists.specs.Lists.{one, checks, count, someOf, changed}
+use Rattle.lists.specs.Lists.{one, count, someOf}
 use Rattle.table.specs.declared.Row.{Row}
-use Rattle.table.specs.Table.{isAt, isOpenAt, listed, openedAt, marked, setOpened, misshapen, isMulti, repeats, judgeTable, Proper}
+use Rattle.table.specs.Table.{isAt, listed, openedAt, marked, setOpened, misshapen, isMulti, judgeTable, Proper}
 use Rattle.table.proofs.Counts.{count-none}
 use Rattle.table.proofs.Judged.{repeats-same, accepted, proper}
 

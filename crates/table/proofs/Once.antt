@@ -1,15 +1,15 @@
 -- Columns are known by their rows. So a contract that gives the rows and the law of the columns leaves one content of them.
-use Prim.Native.Nat.{ℕ, zero, suc, _≤_, _<_}
+use Prim.Native.Nat.{ℕ, zero, suc, _<_}
 use mathlib.Core.Path.{_≡_, refl, sym, ap, _∙_}
 use mathlib.Core.Bool.{Bool, true, false}
-use mathlib.Core.List.{List, [], _∷_}
+use mathlib.Core.List.{List, _∷_}
 use native.Mathlib.Omega.{arith}
-use lib.Dec.{eqb, ltb}
+use lib.Dec.{ltb}
 use lib.ListN.{length, getD}
 use lib.Seq.{ext-getD}
 use borrow.Author.Tests.{ltb-true, ltb-false}
 use Rattle.table.specs.declared.Row.{Row}
-use Rattle.table.specs.Table.{rowsOf, setOpened, Columns, Opened}
+use Rattle.table.specs.Table.{rowsOf, Columns, Opened}
 use Rattle.table.proofs.Walks.{rowAt, rows-length}
 
 head : (x y : Row) (xs ys : List Row) → x ∷ xs ≡ y ∷ ys → x ≡ y

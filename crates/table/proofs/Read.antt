@@ -10,12 +10,13 @@ use lib.Dec.{ltb}
 use lib.ListN.{length, getD, take, set, replicate, length-append, length-set}
 use lib.Seq.{append-snoc, getD-set-same, getD-set-other, take-all, length-take-le}
 use borrow.Author.Tests.{ltb-true, ltb-false, lt-ltb, le-ltb}
+use Rattle.tapa.specs.declared.Refusal.the-variants.{RowCountOrShape}
 use Rattle.table.specs.declared.Row.{Row}
 use Rattle.table.specs.declared.Rows.{Rows}
 use Rattle.table.specs.declared.Checked.{Checked}
 use Rattle.table.specs.declared.Checked.the-variants.{Accepted, Refused}
-use Rattle.table.specs.Table.{rowsOf, Columns, heldRows, Held, noRows, withRow, withRows, rowsRead, column, firstRows, judgeTable, judgeRows, keptBy, setUpWith, setUpOf}
-use Rattle.table.proofs.Judged.{judge-many, judge-reverse}
+use Rattle.table.specs.Table.{rowsOf, Proper, heldRows, Held, noRows, withRow, withRows, rowsRead, column, firstRows, judgeTable, judgeRows, keptBy, setUpWith, setUpOf}
+use Rattle.table.proofs.Judged.{judge-many, judge-reverse, accepted}
 
 -- ---- one row more
 
@@ -67,10 +68,6 @@ full-more t r full = rw (le-ltb (t .count) 16 full)
 
 -- ---- many rows
 
-pub withs-held : (ys : List Row) (t : Rows) → Held t → Held (withRows t ys)
-withs-held [] t h = h
-withs-held (r ∷ ys) t h = withs-held ys (withRow t r) (with-held t r h)
-
 read-few : (ys : List Row) (t : Rows) → Held t → t .more ≡ false → t .count + length ys ≤ 16
     → (heldRows (withRows t ys) ≡ reverseAux ys (heldRows t)) × ((withRows t ys) .more ≡ false)
 read-few [] t h m l = (refl, m)
@@ -100,6 +97,10 @@ read-many (r ∷ ys) t f l = go (ltb (t .count) 16) refl (read-many ys (withRow 
     go false e ih = more-stays ys (withRow t r) (full-more t r (ltb-false (t .count) 16 e))
 
 -- ---- lent rows
+
+pub withs-held : (ys : List Row) (t : Rows) → Held t → Held (withRows t ys)
+withs-held [] t h = h
+withs-held (r ∷ ys) t h = withs-held ys (withRow t r) (with-held t r h)
 
 same-all : {A : Type 0} (n j : ℕ) (d : A) → getD (replicate n d) j d ≡ d
 same-all zero j d = refl
@@ -133,10 +134,22 @@ judge-read rows = go (ltb 16 (length rows)) refl
 pub set-up-read : (rows : List Row) → setUpWith (rowsRead rows) ≡ setUpOf rows
 set-up-read rows = ap (λ (c : Checked). record { answer = c; rows = keptBy c (rowsRead rows) }) (judge-read rows)
 
+-- rows that are accepted are a table
+pub rows-proper : (t : Rows) → judgeRows t ≡ Accepted → Proper (heldRows t)
+unfolding judgeRows
+rows-proper t e = go (t .more) e
+  where
+    go : (b : Bool) → cond b (Refused RowCountOrShape) (judgeTable (heldRows t)) ≡ Accepted → Proper (heldRows t)
+    go true f = absurd (let z : _≡_ {A = ℕ} 0 1 = cc in omega arith)
+    go false f = accepted (heldRows t) f
+
 -- what set-up leaves is lawful
 pub kept-held : (c : Checked) (t : Rows) → Held t → Held (keptBy c t)
 kept-held Accepted t h = h
 kept-held (Refused r) t h = none-held
+
+pub set-up-held : (rows : List Row) → Held (setUpOf rows .rows)
+set-up-held rows = kept-held (judgeTable rows) (rowsRead rows) (read-held rows)
 
 -- ---- the same said at once
 

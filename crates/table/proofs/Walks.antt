@@ -1,16 +1,16 @@
 -- A walk down the columns, from the last row to the first: what one step says of the rows.
 use Prim.Native.Nat.{ℕ, zero, suc, _+_, _-_, _≤_, _<_}
 use mathlib.Core.Path.{_≡_, refl, sym, ap, _∙_}
-use mathlib.Core.Bool.{Bool, true, false, _||_}
-use mathlib.Core.List.{List, [], _∷_}
+use mathlib.Core.Bool.{Bool, true, false}
+use mathlib.Core.List.{List, _∷_}
 use native.Mathlib.Numerals.{add-one}
 use native.Mathlib.Omega.{arith}
 use lib.ListN.{length, getD, set, length-set}
 use lib.Seq.{getD-set-same, getD-set-other}
 use borrow.Author.Tests.{eq-eqb, ne-eqb}
-use Rattle.lists.specs.Lists.{one, count, someOf}
+use Rattle.lists.specs.Lists.{count, someOf}
 use Rattle.table.specs.declared.Row.{Row}
-use Rattle.table.specs.Table.{isAt, listed, marked, setOpened, repeats, rowsOf, Columns, Opened}
+use Rattle.table.specs.Table.{listed, setOpened, repeats, rowsOf, Columns, Opened}
 
 -- the row in a place of the columns
 abbrev pub rowAt : List ℕ → List Bool → ℕ → Row

@@ -69,6 +69,9 @@ pub fn with_row(rows: Rows, row: Row) -> Rows
 }
 
 // ---- look-up by handler
+//
+// A table is lent as its two columns and their count, also where the addresses alone are read:
+// the contracts speak of its rows.
 
 pub fn is_listed<'a>(
     addresses: &'a [u16; 16],

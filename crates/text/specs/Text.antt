@@ -1,5 +1,7 @@
 -- Text in a lent buffer. The session program prints numbers in decimal, and addresses and replies in 'upper-case hex'.
 use Prim.Native.Nat.{ℕ, zero, suc, _+_, _/_, _%_}
+use Prim.Native.Char.{code}
+use Prim.Native.String.{String, [] as none, _∷_ as _then_}
 use mathlib.Core.Bool.{cond}
 use mathlib.Core.List.{List, [], _∷_, _++_}
 use lib.Dec.{ltb}
@@ -23,6 +25,13 @@ pushed p b = cond (ltb (p .at) (length (p .bytes))) (pen (set (p .bytes) (p .at)
 unfoldable pub puts : Pen → List ℕ → Pen
 puts p [] = p
 puts p (b ∷ bs) = puts (pushed p b) bs
+
+-- ---- words
+
+-- a quoted text as its bytes
+abbrev pub ascii : String → List ℕ
+ascii none = []
+ascii (c then s) = code c ∷ ascii s
 
 -- ---- hexadecimal
 

@@ -1,14 +1,13 @@
 -- `table::check` meets its contract: each answer by the tests that led there. Assumes nothing.
-use Prim.Native.Nat.{ℕ, _+_, _≤_, _<_}
-use mathlib.Core.Path.{_≡_, sym, ap, _∙_}
-use mathlib.Core.Bool.{true, false}
+use mathlib.Core.Path.{_≡_, sym, _∙_}
+use mathlib.Core.Bool.{false}
 use native.Mathlib.Omega.{arith}
 use lib.ListN.{length}
 use borrow.Author.Needs.{needs}
-use Rattle.lists.specs.Lists.{count, someOf}
+use Rattle.lists.specs.Lists.{count}
 use Rattle.table.specs.declared.Checked.{Checked}
 use Rattle.table.specs.declared.Rows.{Rows}
-use Rattle.table.specs.Table.{misshapen, isMulti, repeats, rowsOf, heldRows, judgeTable, judgeRows}
+use Rattle.table.specs.Table.{heldRows, judgeTable, judgeRows}
 use Rattle.table.proofs.Walks.{rows-length}
 use Rattle.table.proofs.Judged.{judge-none, judge-many, judge-shape, judge-repeat, judge-multi, judge-accepted}
 use Rattle.table.proofs.check.Statement.{statement}

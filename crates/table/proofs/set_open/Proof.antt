@@ -1,6 +1,6 @@
 -- `table::set_open` meets its contract: the rows passed are not the handler's, and stay. Assumes nothing.
 use Prim.Native.Nat.{_≤_}
-use mathlib.Core.Path.{_≡_, refl, sym, ap, _∙_}
+use mathlib.Core.Path.{_≡_, refl}
 use native.Mathlib.Omega.{arith}
 use borrow.Author.Needs.{needs}
 use Rattle.table.proofs.Walks.{Below, below-here, below-past, below-none}

@@ -1,0 +1,5 @@
+pub mod Judging
+pub mod Laws
+pub mod Once
+pub mod Replies
+pub mod Sums

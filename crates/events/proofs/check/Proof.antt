@@ -1,0 +1,49 @@
+-- `events::check` meets its contract, check by check. Assumes nothing.
+use mathlib.Core.Path.{sym, _∙_}
+use borrow.Author.Tests.{lt-ltb, le-ltb}
+use borrow.Author.Needs.{needs}
+use Rattle.events.proofs.check.Statement.{statement}
+use Rattle.events.proofs.check.Tie as tie
+
+returns : tie.Need-returns
+returns c = sym (rw (lt-ltb _ 13 (c .if1 .taken)))
+
+read-requires : tie.Need-read-requires
+read-requires c κs = search needs
+
+enum-known-refusal : tie.Need-enum-known-refusal
+enum-known-refusal c = search needs
+
+enum-known-head : tie.Need-enum-known-head
+enum-known-head c = search needs
+
+is-elsewhere-requires : tie.Need-is-elsewhere-requires
+is-elsewhere-requires c κs = search needs
+
+returns-2 : tie.Need-returns-2
+returns-2 c =
+    let s = c .before .before .before .before .before .before in
+    sym (rw (le-ltb _ 13 (s .if1 .left), sym (c .before .before .before .before .before .read .ensures) ∙ c .before .before .before .head .given .1, sym (c .before .is-elsewhere .ensures) ∙ c .if2 .taken))
+
+returns-3 : tie.Need-returns-3
+returns-3 c =
+    let s = c .before .before .before .before in
+    sym (rw (le-ltb _ 13 (s .if1 .left), sym (c .before .before .before .read .ensures) ∙ c .before .refusal .given .1))
+
+returns-4 : tie.Need-returns-4
+returns-4 c =
+    let s = c .before .before .before .before .before .before in
+    sym (rw (le-ltb _ 13 (s .if1 .left), sym (c .before .before .before .before .before .read .ensures) ∙ c .before .before .before .head .given .1, sym (c .before .is-elsewhere .ensures) ∙ c .if2 .left))
+
+pub check-spec : {M : Type 1} → statement M
+check-spec =
+    tie.close
+    (tie.spec
+    returns
+    read-requires
+    enum-known-refusal
+    enum-known-head
+    is-elsewhere-requires
+    returns-2
+    returns-3
+    returns-4)

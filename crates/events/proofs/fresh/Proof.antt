@@ -1,0 +1,10 @@
+-- `events::fresh` meets its contract. Assumes nothing.
+use Rattle.events.proofs.Laws.{holds-none}
+use Rattle.events.proofs.fresh.Statement.{statement}
+use Rattle.events.proofs.fresh.Tie as tie
+
+returns : tie.Need-returns
+returns c = holds-none
+
+pub fresh-spec : {M : Type 1} → statement M
+fresh-spec = tie.close (tie.spec returns)

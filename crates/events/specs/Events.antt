@@ -1,0 +1,180 @@
+-- The event queue (section 13): what a message asks of it, what is decided, and what that does. Events stand oldest first.
+use Prim.Native.Nat.{ℕ, _+_}
+use mathlib.Core.Bool.{Bool, true, false, not, _&&_, _||_, cond}
+use mathlib.Core.List.{List, [], _∷_, _++_}
+use mathlib.Core.Option.{Option, none, some}
+use lib.Dec.{eqb, ltb, leb}
+use lib.ListN.{length, getD}
+use Rattle.lists.specs.Lists.{checks, first, without, onto}
+use Rattle.tapa.specs.Address.{handlerOf}
+use Rattle.tapa.specs.Codes.{done, unsupportedOperation, queueEmpty, noMatch, response, addEvent, getEvent, findEvent, flushQueue, eventHandler}
+use Rattle.tapa.specs.Numbers.{wordAt, twoBytes}
+use Rattle.tapa.specs.declared.Refusal.{Refusal}
+use Rattle.tapa.specs.declared.Refusal.the-variants.{BufferTooSmall, NotThisPartsMessage}
+use Rattle.message.specs.declared.Head.{Head}
+use Rattle.message.specs.declared.Reading.{Reading}
+use Rattle.message.specs.declared.Reading.the-variants.{Message, Refused as NoMessage}
+use Rattle.message.specs.Message.{readOf, partOf, messageOf}
+use Rattle.events.specs.declared.Event.{Event}
+use Rattle.events.specs.declared.Search.{Search}
+use Rattle.events.specs.declared.Command.{Command}
+use Rattle.events.specs.declared.Command.the-variants.{Add, WrongAdd, Get, Find, Flush, Wrong}
+use Rattle.events.specs.declared.Outcome.{Outcome}
+use Rattle.events.specs.declared.Outcome.the-variants.{Added, Ignored, Taken, Emptied, Coded}
+use Rattle.events.specs.declared.Checked.{Checked}
+use Rattle.events.specs.declared.Checked.the-variants.{Passed, Failed}
+use Rattle.events.specs.declared.Answer.{Answer}
+use Rattle.events.specs.declared.Answer.the-variants.{Reply, Nothing, Refused}
+
+-- ---- the checks
+
+-- 'destination handler not '0700' or type 'FF''
+unfoldable pub elsewhere : Head → Bool
+elsewhere h = not (eqb (handlerOf (h .destination)) eventHandler) || eqb (h .kind) response
+
+-- 'then 1, 2, 3, then destination handler not '0700' or type 'FF' (15)'
+abbrev pub meant : Reading → Checked
+meant (NoMessage r) = Failed r
+meant (Message h) = checks ((elsewhere h, Failed NotThisPartsMessage) ∷ []) (Passed h)
+
+-- 'Checks: reply buffer under 13 (9)', and then these; 'The thread may be any byte.'
+abbrev pub checked : ℕ → List ℕ → Checked
+checked room message = checks ((ltb room 13, Failed BufferTooSmall) ∷ []) (meant (readOf message))
+
+-- ---- what is asked
+
+-- 'each a type byte and a two-byte location'
+abbrev pub eventAt : List ℕ → ℕ → Event
+eventAt part i = record { kind = getD part i 0; location = wordAt part (i + 1) }
+
+-- Table 162: Search Type, Event Type Code, Event Location
+abbrev pub searchIn : List ℕ → Search
+searchIn part = record { by = getD part 0 0; wanted = eventAt part 1 }
+
+-- 'A type outside 'C0' to 'C3', or a wrong data length (Add 3, Get 0, Find 4, Flush 0)'
+unfoldable pub commandOf : ℕ → List ℕ → Command
+commandOf kind part =
+    checks
+    ((eqb kind addEvent, cond (eqb (length part) 3) (Add (eventAt part 0)) WrongAdd)
+    ∷ (eqb kind getEvent, cond (eqb (length part) 0) Get Wrong)
+    ∷ (eqb kind findEvent, cond (eqb (length part) 4) (Find (searchIn part)) Wrong)
+    ∷ (eqb kind flushQueue, cond (eqb (length part) 0) Flush Wrong)
+    ∷ [])
+    Wrong
+
+-- ---- the search, by the table Search Type Coding: bit 1 is by location, bit 2 by type, all others are reserved
+
+abbrev pub byLocation : ℕ
+byLocation = 1
+
+abbrev pub byType : ℕ
+byType = 2
+
+abbrev pub byBoth : ℕ
+byBoth = 3
+
+unfoldable pub knownSearch : ℕ → Bool
+knownSearch by = leb byLocation by && leb by byBoth
+
+-- whether an event meets a search; none meets an unknown search type, and bytes that the type does not use are ignored
+unfoldable pub meets : Search → Event → Bool
+meets s e =
+    checks
+    ((eqb (s .by) byLocation, eqb (e .location) (s .wanted .location))
+    ∷ (eqb (s .by) byType, eqb (e .kind) (s .wanted .kind))
+    ∷ (eqb (s .by) byBoth, eqb (e .kind) (s .wanted .kind) && eqb (e .location) (s .wanted .location))
+    ∷ [])
+    false
+
+-- the search for an event's like
+abbrev pub likeOf : Event → Search
+likeOf e = record { by = byBoth; wanted = e }
+
+-- ---- what is decided
+
+-- 'It holds at most 100 events'
+abbrev pub most : ℕ
+most = 100
+
+-- 'oldest first'
+abbrev pub oldest : List Event → Option Event
+oldest [] = none
+oldest (e ∷ es) = some e
+
+abbrev pub isEmpty : List Event → Bool
+isEmpty [] = true
+isEmpty (e ∷ es) = false
+
+-- an event is taken where there is one, else the answer is this code
+abbrev pub takenOr : ℕ → Option Event → Outcome
+takenOr code none = Coded code
+takenOr code (some e) = Taken e
+
+unfoldable pub judge : List Event → Command → Outcome
+-- 'Add to a full queue drops the newcomer'
+judge es (Add e) = cond (ltb (length es) most) (Added e) Ignored
+-- 'a wrong Add changes nothing and has no reply'
+judge es WrongAdd = Ignored
+-- 'Get takes the oldest, or 'FF72'.'
+judge es Get = takenOr queueEmpty (oldest es)
+-- 'Find takes the oldest that meets its search type: unknown type 'FFFB', empty 'FF72', no match 'FF73', in that order.'
+judge es (Find s) =
+    checks
+    ((not (knownSearch (s .by)), Coded unsupportedOperation)
+    ∷ (isEmpty es, Coded queueEmpty)
+    ∷ [])
+    (takenOr noMatch (first (meets s) es))
+-- 'Flush answers '0000' and empties the queue, also where it was empty.'
+judge es Flush = Emptied
+-- 'gives 'FFFB''
+judge es Wrong = Coded unsupportedOperation
+
+-- ---- what that does
+
+-- to the queue; a taken event is the oldest of its like, and the gap closes
+unfoldable pub apply : Outcome → List Event → List Event
+apply (Added e) es = es ++ (e ∷ [])
+apply Ignored es = es
+apply (Taken e) es = without (meets (likeOf e)) es
+apply Emptied es = []
+apply (Coded code) es = es
+
+-- 'A found event's response carries type, location, '0000' (length '0005'); all others only the code.'
+abbrev pub carried : Outcome → Option (List ℕ)
+carried (Added e) = none
+carried Ignored = none
+carried (Taken e) = some (e .kind ∷ (twoBytes (e .location) ++ twoBytes done))
+carried Emptied = some (twoBytes done)
+carried (Coded code) = some (twoBytes code)
+
+-- the answer is the reply's length
+abbrev pub answerOf : Option (List ℕ) → Answer
+answerOf none = Nothing
+answerOf (some part) = Reply (8 + length part)
+
+-- 'Source and destination are swapped exactly; lent bytes after the reply stay.'
+abbrev pub replied : Head → Option (List ℕ) → List ℕ → List ℕ
+replied h none buffer = buffer
+replied h (some part) buffer = onto (messageOf (h .source) (h .destination) response (h .thread) part) buffer
+
+-- ---- all of it
+
+-- what a message comes to: the answer, the events that the queue then holds, and the whole lent buffer
+pub record Result : Type 0 where
+  pub answer : Answer
+  pub events : List Event
+  pub reply : List ℕ
+
+-- 'A refusal returns its number only and changes nothing'
+abbrev pub refuses : Refusal → List Event → List ℕ → Result
+refuses r es reply = record { answer = Refused r; events = es; reply = reply }
+
+abbrev pub does : Head → Outcome → List Event → List ℕ → Result
+does h o es reply = record { answer = answerOf (carried o); events = apply o es; reply = replied h (carried o) reply }
+
+abbrev pub obeys : Checked → List Event → List ℕ → List ℕ → Result
+obeys (Failed r) es part reply = refuses r es reply
+obeys (Passed h) es part reply = does h (judge es (commandOf (h .kind) part)) es reply
+
+unfoldable pub handled : List Event → List ℕ → List ℕ → Result
+handled es message reply = obeys (checked (length reply) message) es (partOf message) reply

@@ -1,0 +1,4 @@
+pub mod Joining
+pub mod Said
+pub mod Sending
+pub mod Sources

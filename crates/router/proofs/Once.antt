@@ -1,0 +1,57 @@
+-- The contracts leave one answer, one next state and one content of the reply buffer possible.
+use Prim.Native.Nat.{ℕ}
+use mathlib.Core.Path.{_≡_, sym, _∙_}
+use mathlib.Core.List.{List}
+use lib.ListN.{length}
+use Rattle.table.specs.declared.Row.{Row}
+use Rattle.table.specs.declared.Rows.{Rows}
+use Rattle.rules.specs.declared.Outcome.{Outcome}
+use Rattle.rules.specs.Judge.{judgeMessage, judgeGiveUp, judgeReplaced}
+use Rattle.router.specs.declared.Router.{Router}
+use Rattle.router.specs.declared.Routed.{Routed}
+use Rattle.router.specs.declared.Started.{Started}
+use Rattle.router.specs.Router.{viewOf, Routing, Replacing}
+use Rattle.router.specs.Start.{startWith, startOf}
+use Rattle.router.proofs.States.{determined}
+
+same : (p q : Outcome) (r s : Router) → p ≡ q → r ≡ s → _≡_ {A = Routed} (record { outcome = p; next = r }) (record { outcome = q; next = s })
+same p q r s e f = cc
+
+one-replacing : (o : Outcome) (r : Router) (x y : Routed) → Replacing o r x → Replacing o r y → x ≡ y
+one-replacing o r x y a b =
+    same (x .outcome) (y .outcome) (x .next) (y .next) (a .outcome ∙ sym (b .outcome))
+    (determined (x .next) (y .next) (a .law) (b .law) (a .view ∙ sym (b .view)))
+
+one-routing : (o : Outcome) (r : Router) (before after after′ : List ℕ) (x y : Routed)
+    → Routing o r before after x
+    → Routing o r before after′ y
+    → (x ≡ y) × (after ≡ after′)
+one-routing o r before after after′ x y a b = (
+  one-replacing o r x y (record { outcome = a .outcome; view = a .view; law = a .law }) (record { outcome = b .outcome; view = b .view; law = b .law }),
+  a .reply ∙ sym (b .reply),
+)
+
+module _ (r : Router) (x y : Routed) where
+  pub one-route : (message before after after′ : List ℕ)
+      → Routing (judgeMessage (viewOf r) (length before) message) r before after x
+      → Routing (judgeMessage (viewOf r) (length before) message) r before after′ y
+      → (x ≡ y) × (after ≡ after′)
+  one-route message before after after′ = one-routing _ r before after after′ x y
+
+  pub one-give-up : (thread : ℕ) (before after after′ : List ℕ)
+      → Routing (judgeGiveUp (viewOf r) (length before) thread) r before after x
+      → Routing (judgeGiveUp (viewOf r) (length before) thread) r before after′ y
+      → (x ≡ y) × (after ≡ after′)
+  one-give-up thread before after after′ = one-routing _ r before after after′ x y
+
+  pub one-replaced : (address : ℕ)
+      → Replacing (judgeReplaced (viewOf r) address) r x
+      → Replacing (judgeReplaced (viewOf r) address) r y
+      → x ≡ y
+  one-replaced address = one-replacing _ r x y
+
+pub one-start-with : (t : Rows) (x y : Started) → x ≡ startWith t → y ≡ startWith t → x ≡ y
+one-start-with t x y a b = a ∙ sym b
+
+pub one-start : (rows : List Row) (x y : Started) → x ≡ startOf rows → y ≡ startOf rows → x ≡ y
+one-start rows x y a b = a ∙ sym b

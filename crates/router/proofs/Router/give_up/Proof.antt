@@ -1,0 +1,19 @@
+-- `Router::give_up` meets its contract: what is done in place is the next state. Assumes nothing.
+use mathlib.Core.Path.{_≡_, refl, sym, ap, _∙_}
+use Rattle.rules.specs.Judge.{giveUp}
+use Rattle.router.proofs.States.{gives-up}
+use borrow.Author.Needs.{needs}
+use Rattle.router.proofs.Router.give_up.Statement.{statement}
+use Rattle.router.proofs.Router.give_up.Tie as tie
+
+give-in-requires : tie.Need-give-in-requires
+give-in-requires c κs = search needs
+
+same-length : tie.Need-same-length
+same-length c = search needs
+
+returns : tie.Need-returns
+returns c = gives-up (c .before .before .before .before .before .before .before .before .before .args .self) (c .before .before .before .before .before .before .before .before .before .pre) _ (c .before .before .before .before .before .before .before .before .before .args .thread) _ _ _ _ (c .before .before .give-in .ensures)
+
+pub give-up-spec : {M : Type 1} → statement M
+give-up-spec = tie.close (tie.spec give-in-requires same-length returns)

@@ -1,0 +1,16 @@
+-- `Router::replaced` meets its contract: what is done in place is the next state. Assumes nothing.
+use mathlib.Core.Path.{_≡_, refl, sym, ap, _∙_}
+use Rattle.rules.specs.Judge.{replaced}
+use Rattle.router.proofs.States.{replaces}
+use borrow.Author.Needs.{needs}
+use Rattle.router.proofs.Router.replaced.Statement.{statement}
+use Rattle.router.proofs.Router.replaced.Tie as tie
+
+replaced-in-requires : tie.Need-replaced-in-requires
+replaced-in-requires c κs = search needs
+
+returns : tie.Need-returns
+returns c = replaces (c .before .before .before .before .before .before .before .args .self) (c .before .before .before .before .before .before .before .pre) 0 (replaced (c .before .before .before .before .before .before .before .args .address)) _ _ _ (c .replaced-in .ensures)
+
+pub replaced-spec : {M : Type 1} → statement M
+replaced-spec = tie.close (tie.spec replaced-in-requires returns)

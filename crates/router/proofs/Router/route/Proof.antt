@@ -1,0 +1,19 @@
+-- `Router::route` meets its contract: what is done in place is the next state. Assumes nothing.
+use mathlib.Core.Path.{_≡_, refl, sym, ap, _∙_}
+use Rattle.rules.specs.Judge.{message}
+use Rattle.router.proofs.States.{routes}
+use borrow.Author.Needs.{needs}
+use Rattle.router.proofs.Router.route.Statement.{statement}
+use Rattle.router.proofs.Router.route.Tie as tie
+
+route-in-requires : tie.Need-route-in-requires
+route-in-requires c κs = search needs
+
+same-length : tie.Need-same-length
+same-length c = search needs
+
+returns : tie.Need-returns
+returns c = routes (c .before .before .before .before .before .before .before .before .before .before .before .before .args .self) (c .before .before .before .before .before .before .before .before .before .before .before .before .pre) _ (message (c .before .before .before .before .before .before .before .before .before .before .before .before .args .message .now)) _ _ _ _ _ (c .before .before .route-in .ensures)
+
+pub route-spec : {M : Type 1} → statement M
+route-spec = tie.close (tie.spec route-in-requires same-length returns)

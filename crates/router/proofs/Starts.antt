@@ -1,0 +1,60 @@
+-- What a start hands back: over an accepted table a fresh router that keeps the law.
+use Prim.Native.Nat.{ℕ, _≤_}
+use mathlib.Core.Path.{_≡_, refl, sym, ap, _∙_}
+use mathlib.Core.Bool.{Bool, true, false}
+use mathlib.Core.List.{List, reverse}
+use native.Mathlib.Omega.{arith}
+use lib.ListN.{length}
+use Rattle.tapa.specs.declared.Refusal.the-variants.{RowCountOrShape}
+use Rattle.table.specs.declared.Row.{Row}
+use Rattle.table.specs.declared.Rows.{Rows}
+use Rattle.table.specs.declared.Checked.{Checked}
+use Rattle.table.specs.declared.Checked.the-variants.{Accepted, Refused}
+use Rattle.table.specs.Table.{heldRows, Held, judgeRows, judgeTable, keptBy, rowsRead, Proper}
+use Rattle.table.proofs.Judged.{accepted}
+use Rattle.table.proofs.Read.{read-held, read-rows, judge-read}
+use Rattle.places.proofs.Points as points
+use Rattle.rules.specs.View.{View, fresh}
+use Rattle.rules.proofs.Lists.{split, differ}
+use Rattle.rules.proofs.Kept.{conduct-fresh}
+use Rattle.router.specs.declared.Router.{Router}
+use Rattle.router.specs.Router.{viewOf, Lawful}
+use Rattle.router.specs.Start.{freshOver, startWith, startOf}
+
+-- rows that are accepted are a table
+pub rows-proper : (t : Rows) → judgeRows t ≡ Accepted → Proper (heldRows t)
+unfolding judgeRows
+rows-proper t e =
+    split (t .more)
+    (λ p. let z : Refused RowCountOrShape ≡ Accepted = rw p at e in differ (cc))
+    (λ p. accepted (heldRows t) (rw p at e))
+
+pub fresh-lawful : (t : Rows) → Held t → Proper (heldRows t) → Lawful (freshOver t)
+fresh-lawful t h p = record {
+  held = points.fresh .law;
+  columns = h;
+  table = p;
+  conduct = conduct-fresh (heldRows t);
+}
+
+-- of rows by value
+module _ (t : Rows) (e : judgeRows t ≡ Accepted) where
+  start-router : startWith t .router ≡ freshOver t
+  start-router = ap (λ (c : Checked). freshOver (keptBy c t)) e
+
+  pub start-view : viewOf (startWith t .router) ≡ fresh (heldRows t)
+  start-view = ap viewOf start-router
+
+  pub start-lawful : Held t → Lawful (startWith t .router)
+  start-lawful h = rw start-router (fresh-lawful t h (rows-proper t e))
+
+-- of lent rows: the view's rows are these, the last first
+module _ (rows : List Row) (e : judgeTable rows ≡ Accepted) where
+  pub lent-answer : startOf rows .answer ≡ Accepted
+  lent-answer = judge-read rows ∙ e
+
+  pub lent-view : viewOf (startOf rows .router) ≡ fresh (reverse rows)
+  lent-view = start-view (rowsRead rows) lent-answer ∙ ap fresh (read-rows rows (accepted rows e .few))
+
+  pub lent-lawful : Lawful (startOf rows .router)
+  lent-lawful = start-lawful (rowsRead rows) lent-answer (read-held rows)

@@ -1,0 +1,3 @@
+pub mod Router
+pub mod Steps
+pub mod Start

@@ -1,0 +1,37 @@
+-- The router's state: what it means, its law, and what a call of it shows.
+use Prim.Native.Nat.{ℕ}
+use mathlib.Core.Path.{_≡_}
+use mathlib.Core.List.{List}
+use Rattle.table.specs.Table.{rowsOf, Columns, Proper}
+use Rattle.places.specs.Places.{placesOf}
+use Rattle.places.specs.Places as places
+use Rattle.rules.specs.View.{View}
+use Rattle.rules.specs.declared.Outcome.{Outcome}
+use Rattle.rules.specs.Apply.{applied, written}
+use Rattle.rules.specs.Conduct.{Conduct}
+use Rattle.router.specs.declared.Router.{Router}
+use Rattle.router.specs.declared.Routed.{Routed}
+
+abbrev pub viewOf : Router → View
+viewOf r = record { rows = rowsOf (r .addresses) (r .opens) (r .count); places = placesOf (r .list) (r .len) }
+
+-- the law of every state that a start or a call hands back: the arrays hold what the view says and nothing else, the table was accepted,
+-- and the places keep the conduct
+pub record Lawful (r : Router) : Type 0 where
+  pub held : places.Lawful (r .list) (r .len)
+  pub columns : Columns (r .addresses) (r .opens) (r .count)
+  pub table : Proper (viewOf r .rows)
+  pub conduct : Conduct (viewOf r)
+
+-- 'The router takes its state and hands the next one back.' With the outcome o: the next view, its law, and the whole reply buffer
+pub record Routing (o : Outcome) (r : Router) (before after : List ℕ) (out : Routed) : Type 0 where
+  pub outcome : out .outcome ≡ o
+  pub view : viewOf (out .next) ≡ applied o (viewOf r)
+  pub law : Lawful (out .next)
+  pub reply : after ≡ written o before
+
+-- the same for a replaced call, which has no reply buffer
+pub record Replacing (o : Outcome) (r : Router) (out : Routed) : Type 0 where
+  pub outcome : out .outcome ≡ o
+  pub view : viewOf (out .next) ≡ applied o (viewOf r)
+  pub law : Lawful (out .next)
