@@ -1,15 +1,14 @@
 -- Any other type: the rules in their order, and what is done by what they say.
 use Prim.Native.Nat.{ℕ, _≤_, _<_}
 use mathlib.Core.Path.{_≡_, refl, sym, ap, _∙_}
-use mathlib.Core.Bool.{Bool, true, false, not, _&&_, _||_, cond}
-use mathlib.Core.List.{List, [], _∷_}
-use mathlib.Core.Option.{Option, none, some}
-use lib.Dec.{eqb, leb, ltb}
+use mathlib.Core.Bool.{true, false}
+use mathlib.Core.List.{List}
+use mathlib.Core.Option.{Option, some}
+use lib.Dec.{eqb}
 use lib.ListN.{length}
 use borrow.Author.Tests.{eq-eqb, ne-eqb, le-ltb, lt-ltb, le-leb, lt-leb, leb-false}
-use Rattle.lists.specs.declared.Found.{Found}
 use Rattle.lists.specs.declared.Found.the-variants.{At, Nothing}
-use Rattle.lists.specs.Lists.{checks, someOf, find, first, onto}
+use Rattle.lists.specs.Lists.{someOf, find, onto}
 use Rattle.tapa.specs.Address.{categoryOf, handlerOf}
 use Rattle.tapa.specs.Types.{known}
 use Rattle.tapa.specs.Codes.{invalidDestination, handlerError, handlerBusy, insufficientResources, mustBeOpened, unsupportedOperation}
@@ -22,11 +21,11 @@ use Rattle.places.specs.Places as places
 use Rattle.places.proofs.Walks.{here, find-none}
 use Rattle.rules.specs.View.{View}
 use Rattle.rules.specs.declared.Outcome.{Outcome}
-use Rattle.rules.specs.declared.Outcome.the-variants.{Passed, Turned}
+use Rattle.rules.specs.declared.Outcome.the-variants.{Passed}
 use Rattle.rules.specs.Judge.{allows, mayAsk, busy, turned, rules, judgeCommand}
 use Rattle.rules.specs.Apply.{place, rowsAfter}
 use Rattle.rules.proofs.Lists.{differ, checks-are}
-use Rattle.router.specs.Steps.{Placing, Writing, closedTo}
+use Rattle.router.specs.Steps.{Writing, closedTo}
 
 -- ---- rule d
 

@@ -1,15 +1,13 @@
 -- A message, by its checks and its type; a give up; a replaced call.
 use Prim.Native.Nat.{ℕ, _≤_, _<_}
 use mathlib.Core.Path.{_≡_, refl, sym, ap, subst, _∙_}
-use mathlib.Core.Bool.{Bool, true, false, not, _&&_, cond}
-use mathlib.Core.List.{List, [], _∷_}
-use mathlib.Core.Option.{Option, none, some}
-use lib.Dec.{eqb, ltb}
+use mathlib.Core.Bool.{Bool, true, false}
+use mathlib.Core.List.{List}
+use lib.Dec.{eqb}
 use lib.ListN.{length}
 use borrow.Author.Tests.{eq-eqb, ne-eqb, eqb-true, le-ltb, lt-ltb}
-use Rattle.lists.specs.declared.Found.{Found}
 use Rattle.lists.specs.declared.Found.the-variants.{At, Nothing}
-use Rattle.lists.specs.Lists.{checks, someOf, find, first, keep, changedAt, onto}
+use Rattle.lists.specs.Lists.{checks, someOf, find, keep, changedAt, onto}
 use Rattle.tapa.specs.Address.{handlerOf}
 use Rattle.tapa.specs.Codes.{response, handlerError, addEvent, eventHandler}
 use Rattle.tapa.specs.declared.Refusal.{Refusal}
@@ -33,7 +31,7 @@ use Rattle.rules.specs.Apply.{written, rowsAfter, placesAfter}
 use Rattle.rules.proofs.Lists.{split, eqb-same}
 use Rattle.rules.proofs.Waits.{exact-on, open-thread}
 use Rattle.router.specs.declared.Step.{Step}
-use Rattle.router.specs.Steps.{heldView, Placing, Writing, Moving, Stepping}
+use Rattle.router.specs.Steps.{heldView, Writing, Moving, Stepping}
 use Rattle.router.proofs.Responses.{response-writes}
 use Rattle.router.proofs.Commands.{command-rows}
 

@@ -1,11 +1,11 @@
 -- Type 'FF': from the place that was found to what the rules say.
 use Prim.Native.Nat.{ℕ}
 use mathlib.Core.Path.{_≡_, refl, sym, ap, _∙_}
-use mathlib.Core.Bool.{Bool, true, false, not, _&&_, cond}
+use mathlib.Core.Bool.{Bool, true, false}
 use mathlib.Core.List.{List}
 use mathlib.Core.Option.{Option, none, some}
 use lib.Dec.{eqb}
-use borrow.Author.Tests.{eq-eqb, ne-eqb, eqb-true}
+use borrow.Author.Tests.{eq-eqb, ne-eqb}
 use Rattle.lists.specs.declared.Found.{Found}
 use Rattle.lists.specs.declared.Found.the-variants.{At, Nothing}
 use Rattle.lists.specs.Lists.{checks, someOf, find, first, withoutAt}
@@ -15,11 +15,10 @@ use Rattle.tapa.specs.declared.Refusal.the-variants.{NoResponseCode, StrayRespo
 use Rattle.message.specs.declared.Head.{Head}
 use Rattle.message.specs.declared.Coded.{Coded}
 use Rattle.message.specs.declared.Coded.the-variants.{Code, Missing}
-use Rattle.table.specs.declared.Row.{Row}
-use Rattle.table.specs.Table.{rowsOf, setOpened, Columns, Opened}
+use Rattle.table.specs.Table.{rowsOf, Columns, Opened}
 use Rattle.places.specs.declared.Place.{Place}
 use Rattle.places.specs.Places.{placeAt, placesOf, openOn, asksExactly, owesExactly, Becomes}
-use Rattle.places.proofs.Walks.{Here, here, find-none, end-found, none-passes, one-passes, find-strong}
+use Rattle.places.proofs.Walks.{here, find-none, end-found, none-passes, one-passes, find-strong}
 use Rattle.rules.specs.View.{View}
 use Rattle.rules.specs.declared.Outcome.{Outcome}
 use Rattle.rules.specs.declared.Outcome.the-variants.{Answered, Swallowed, Refused}

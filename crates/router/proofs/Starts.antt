@@ -1,10 +1,6 @@
 -- What a start hands back: over an accepted table a fresh router that keeps the law.
-use Prim.Native.Nat.{ℕ, _≤_}
-use mathlib.Core.Path.{_≡_, refl, sym, ap, _∙_}
-use mathlib.Core.Bool.{Bool, true, false}
+use mathlib.Core.Path.{_≡_, ap, _∙_}
 use mathlib.Core.List.{List, reverse}
-use native.Mathlib.Omega.{arith}
-use lib.ListN.{length}
 use Rattle.tapa.specs.declared.Refusal.the-variants.{RowCountOrShape}
 use Rattle.table.specs.declared.Row.{Row}
 use Rattle.table.specs.declared.Rows.{Rows}
@@ -14,10 +10,9 @@ use Rattle.table.specs.Table.{heldRows, Held, judgeRows, judgeTable, keptBy, ro
 use Rattle.table.proofs.Judged.{accepted}
 use Rattle.table.proofs.Read.{read-held, read-rows, judge-read}
 use Rattle.places.proofs.Points as points
-use Rattle.rules.specs.View.{View, fresh}
+use Rattle.rules.specs.View.{fresh}
 use Rattle.rules.proofs.Lists.{split, differ}
 use Rattle.rules.proofs.Kept.{conduct-fresh}
-use Rattle.router.specs.declared.Router.{Router}
 use Rattle.router.specs.Router.{viewOf, Lawful}
 use Rattle.router.specs.Start.{freshOver, startWith, startOf}
 

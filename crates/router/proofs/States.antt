@@ -1,6 +1,6 @@
 -- From a step in place to the state by value; and that a state is known by its view.
 use Prim.Native.Nat.{ℕ}
-use mathlib.Core.Path.{_≡_, refl, sym, ap, _∙_}
+use mathlib.Core.Path.{_≡_, refl, ap}
 use mathlib.Core.Bool.{Bool}
 use mathlib.Core.List.{List}
 use mathlib.Core.Option.{Option, none, some}
@@ -10,25 +10,23 @@ use Rattle.lists.specs.Lists.{first}
 use Rattle.table.specs.declared.Row.{Row}
 use Rattle.table.specs.declared.Rows.{Rows}
 use Rattle.table.specs.declared.SetUp.{SetUp}
-use Rattle.table.specs.Table.{rowsOf, Columns, Proper, setUpWith}
+use Rattle.table.specs.Table.{setUpWith}
 use Rattle.table.proofs.Once as table
 use Rattle.places.specs.declared.Place.{Place}
-use Rattle.places.specs.Places.{placesOf, openOn, Becomes}
+use Rattle.places.specs.Places.{placesOf, openOn}
 use Rattle.places.specs.Places as places
 use Rattle.places.proofs.Once as held
 use Rattle.rules.specs.View.{View}
 use Rattle.rules.specs.declared.Outcome.{Outcome}
 use Rattle.rules.specs.Judge.{Call, giveUp, judge, yields, judgeGiveUp}
-use Rattle.rules.specs.Apply.{rowsAfter, placesAfter, applied, written}
-use Rattle.rules.specs.Conduct.{Conduct}
+use Rattle.rules.specs.Apply.{rowsAfter, applied}
 use Rattle.rules.proofs.Lists.{split}
 use Rattle.rules.proofs.Kept as kept
 use Rattle.router.specs.declared.Router.{Router}
-use Rattle.router.specs.declared.Routed.{Routed}
 use Rattle.router.specs.declared.Step.{Step}
 use Rattle.router.specs.Router.{viewOf, Lawful, Routing, Replacing}
 use Rattle.router.specs.Start.{startWith}
-use Rattle.router.specs.Steps.{Placing, Writing, Moving, Stepping, Giving}
+use Rattle.router.specs.Steps.{Moving, Stepping, Giving}
 
 views : (v w : View) → v .rows ≡ w .rows → v .places ≡ w .places → v ≡ w
 views v w p q = go (v .rows) (w .rows) (v .places) (w .places) p q

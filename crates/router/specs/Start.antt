@@ -1,12 +1,9 @@
 -- 'A fresh router has no waits and owes nothing.'
-use mathlib.Core.Bool.{false}
 use mathlib.Core.List.{List}
 use lib.ListN.{replicate}
 use Rattle.table.specs.declared.Row.{Row}
 use Rattle.table.specs.declared.Rows.{Rows}
-use Rattle.table.specs.declared.Checked.{Checked}
-use Rattle.table.specs.declared.Checked.the-variants.{Accepted, Refused}
-use Rattle.table.specs.Table.{noRows, judgeRows, keptBy, rowsRead}
+use Rattle.table.specs.Table.{judgeRows, keptBy, rowsRead}
 use Rattle.router.specs.declared.Router.{Router}
 use Rattle.router.specs.declared.Started.{Started}
 

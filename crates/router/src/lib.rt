@@ -22,7 +22,7 @@ ghost use Prim.Native.Nat.{_≤_};
 ghost use lib.ListN.{length, take};
 ghost use Rattle.lists.specs.Lists.{count as countOf};
 ghost use Rattle.table.specs.Table.{rowsOf, Columns};
-ghost use Rattle.places.specs.Places.{placeAt, placesOf, isOpen, isOwed};
+ghost use Rattle.places.specs.Places.{placesOf, isOpen, isOwed};
 ghost use Rattle.places.specs.Places as places;
 ghost use Rattle.rules.specs.Judge.{late, judgeResponse, isAddEvent, judgeEvent, mayAsk, busy, turned, judgeCommand, judgeKind, judgeMessage, judgeGiveUp, judgeReplaced};
 ghost use Rattle.rules.specs.Apply.{place, sent};
@@ -30,7 +30,7 @@ ghost use Rattle.message.specs.Message.{codeOf, partOf};
 ghost use Rattle.router.specs.Router.{viewOf, Lawful, Routing, Replacing};
 ghost use Rattle.router.specs.Steps.{heldView, refusing, Placing, Writing, Moving, Stepping, answerAt, Reopening, closedTo, ruled, Giving};
 ghost use Rattle.router.specs.declared.Ruling.the-variants.{On};
-ghost use Rattle.router.specs.Start.{freshOver, startWith, startOf};
+ghost use Rattle.router.specs.Start.{startWith, startOf};
 
 // The list of places with its length, and the table's two columns with their length.
 pub struct Router {
@@ -628,4 +628,24 @@ pub fn start(rows: &[Row]) -> Started
     ensures { λ r. ⌜ r ≡ startOf (now (rows .entry)) ⌝ }
 {
     start_with(table::read_rows(rows))
+}
+
+// Lends the first rows of an array. No slice of structs stands in its signature, so that
+// whoever calls it needs no proof by hand.
+fn lend(rows: [Row; 17], count: usize) -> Started
+    requires { ⌜ count ≤ 17 ⌝ }
+    ensures { λ r. ⌜ r ≡ startOf (take count rows) ⌝ }
+{
+    start(&rows[..count])
+}
+
+// A start with the first rows of one's own. There is one place more than a table has, so that a
+// table that is too long can be lent too.
+pub fn start_own(rows: [Row; 17], count: usize) -> Started
+    ensures { λ r. ⌜ r ≡ startOf (take count rows) ⌝ }
+{
+    if 17 < count {
+        return lend(rows, 17);
+    }
+    lend(rows, count)
 }

@@ -1,5 +1,5 @@
 -- `router::answer_at` meets its contract: the innermost wait is found, and its address compared. Assumes nothing.
-use mathlib.Core.Path.{_≡_, refl, sym, ap, _∙_}
+use mathlib.Core.Path.{sym, _∙_}
 use Rattle.router.proofs.Responses.{asked-none, asked-other, asked-this}
 use borrow.Author.Needs.{needs}
 use Rattle.router.proofs.answer_at.Statement.{statement}

@@ -1,5 +1,5 @@
 -- `router::command_in` meets its contract: what the rules say is done. Assumes nothing.
-use mathlib.Core.Path.{_≡_, refl, sym, ap, _∙_}
+use mathlib.Core.Path.{sym, ap, _∙_}
 use Rattle.router.specs.Steps.{ruled}
 use Rattle.router.proofs.Commands.{turns, passes, room}
 use borrow.Author.Needs.{needs}

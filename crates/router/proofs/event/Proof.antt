@@ -1,5 +1,5 @@
 -- `router::event` meets its contract: the mark of the event handler decides. Assumes nothing.
-use mathlib.Core.Path.{_≡_, refl, sym, ap, _∙_}
+use mathlib.Core.Path.{sym, _∙_}
 use borrow.Author.Needs.{needs}
 use Rattle.router.proofs.event.Statement.{statement}
 use Rattle.router.proofs.event.Tie as tie

@@ -1,5 +1,5 @@
 -- `router::first_ten` meets its contract: a smaller buffer is its own first ten bytes. Assumes nothing.
-use mathlib.Core.Path.{_≡_, sym}
+use mathlib.Core.Path.{sym}
 use native.Mathlib.Omega.{arith}
 use lib.Seq.{take-all}
 use borrow.Author.Needs.{needs}

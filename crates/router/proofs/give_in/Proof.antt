@@ -1,5 +1,5 @@
 -- `router::give_in` meets its contract: the innermost wait is found, answered for and owed. Assumes nothing.
-use mathlib.Core.Path.{_≡_, refl, sym, ap, _∙_}
+use mathlib.Core.Path.{sym, _∙_}
 use Rattle.tapa.specs.declared.Refusal.the-variants.{ThreadAbove7, BufferTooSmall, NothingToGiveUp}
 use Rattle.router.proofs.Steps.{unwritten}
 use Rattle.router.proofs.Messages.{give-small, give-high, give-none, give-one, gives}

@@ -1,5 +1,4 @@
 -- `router::is_add_event` meets its contract: type and handler are compared. Assumes nothing.
-use mathlib.Core.Path.{_≡_, refl, sym, ap, _∙_}
 use Rattle.router.proofs.Messages.{no-add, adds-to}
 use borrow.Author.Needs.{needs}
 use Rattle.router.proofs.is_add_event.Statement.{statement}

@@ -1,5 +1,5 @@
 -- `router::is_busy` meets its contract: the parts of rule e in their order. Assumes nothing.
-use mathlib.Core.Path.{_≡_, refl, sym, ap, _∙_}
+use mathlib.Core.Path.{sym, _∙_}
 use Rattle.router.proofs.Commands.{busy-asker, busy-chain, busy-slot}
 use borrow.Author.Needs.{needs}
 use Rattle.router.proofs.is_busy.Statement.{statement}

@@ -1,5 +1,5 @@
 -- `router::is_closed` meets its contract: the mark of the handler and the type decide. Assumes nothing.
-use mathlib.Core.Path.{_≡_, sym, _∙_}
+use mathlib.Core.Path.{sym, _∙_}
 use borrow.Author.Needs.{needs}
 use Rattle.router.proofs.is_closed.Statement.{statement}
 use Rattle.router.proofs.is_closed.Tie as tie

@@ -1,6 +1,5 @@
 -- `router::kind_in` meets its contract: by type, each as its own function shows. Assumes nothing.
-use mathlib.Core.Path.{_≡_, refl, sym, ap, _∙_}
-use borrow.Author.Tests.{not-true, not-false}
+use mathlib.Core.Path.{refl, sym, ap, _∙_}
 use Rattle.message.specs.Message.{codeOf}
 use Rattle.router.proofs.Messages.{is-response, is-event, is-command, response-steps, event-steps, command-steps}
 use borrow.Author.Needs.{needs}
@@ -19,7 +18,7 @@ response-in-requires c κs = search needs
 returns : tie.Need-returns
 returns c = let s = c .before .before .before .before .before .before .before .before .before in
     response-steps _ (s .args .head) _ _ _ _ _ _ _ _ _ (is-response _ _ _ (c .before .before .before .before .before .if1 .taken))
-    (c .before .before .before .response-code .ensures ∙ ap codeOf (c .before .before .before .before .data-part .ensures)) (c .response-in .ensures)
+    (c .before .before .before .response-code .ensures ∙ ap codeOf (c .before .before .before .before .data-part .ensures .bytes)) (c .response-in .ensures)
 
 is-add-event-requires : tie.Need-is-add-event-requires
 is-add-event-requires c κs = search needs

@@ -1,5 +1,5 @@
 -- `router::late_in` meets its contract: the owing that was found ends. Assumes nothing.
-use mathlib.Core.Path.{_≡_, refl, sym, ap, _∙_}
+use mathlib.Core.Path.{sym, _∙_}
 use Rattle.tapa.specs.declared.Refusal.the-variants.{StrayResponse}
 use Rattle.router.proofs.Steps.{unplaced}
 use Rattle.router.proofs.Responses.{swallows, strays}

@@ -1,5 +1,5 @@
 -- `router::may_ask` meets its contract: the innermost wait or, where there is none, the category decides. Assumes nothing.
-use mathlib.Core.Path.{_≡_, refl, sym, ap, _∙_}
+use mathlib.Core.Path.{sym, _∙_}
 use Rattle.router.proofs.Commands.{may-over, may-first}
 use borrow.Author.Needs.{needs}
 use Rattle.router.proofs.may_ask.Statement.{statement}

@@ -1,5 +1,4 @@
 -- `router::part_to_send` meets its contract: each outcome by itself. Assumes nothing.
-use mathlib.Core.Path.{_≡_, refl, sym, ap, _∙_}
 use borrow.Author.Needs.{needs}
 use Rattle.router.proofs.part_to_send.Statement.{statement}
 use Rattle.router.proofs.part_to_send.Tie as tie

@@ -1,5 +1,4 @@
 -- `router::reopen` meets its contract: the code and the type decide, and `set_open` does the rest. Assumes nothing.
-use mathlib.Core.Path.{_≡_, refl, sym, ap, _∙_}
 use Rattle.router.proofs.Responses.{reopens-not, reopens-other, reopens-open, reopens-close}
 use borrow.Author.Needs.{needs}
 use Rattle.router.proofs.reopen.Statement.{statement}

@@ -1,5 +1,5 @@
 -- `router::replaced_in` meets its contract: the checks in their order, then the mark and the owings. Assumes nothing.
-use mathlib.Core.Path.{_≡_, refl, sym, ap, _∙_}
+use mathlib.Core.Path.{sym, _∙_}
 use borrow.Author.Tests.{not-true, not-false}
 use Rattle.tapa.specs.declared.Refusal.the-variants.{NotInTable, StandsInAWait}
 use Rattle.router.proofs.Steps.{unmoved}

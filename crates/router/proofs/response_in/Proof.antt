@@ -1,5 +1,5 @@
 -- `router::response_in` meets its contract: by the code, the wait that can be answered, and its asker. Assumes nothing.
-use mathlib.Core.Path.{_≡_, refl, sym, ap, _∙_}
+use mathlib.Core.Path.{sym, ap, _∙_}
 use mathlib.Core.Option.{some}
 use Rattle.tapa.specs.declared.Refusal.the-variants.{NoResponseCode, WrongAsker}
 use Rattle.router.proofs.Steps.{unmoved}

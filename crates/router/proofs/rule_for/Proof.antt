@@ -1,8 +1,7 @@
 -- `router::rule_for` meets its contract: the rules a to f in their order. Assumes nothing.
 use Prim.Native.Nat.{ℕ}
-use mathlib.Core.Path.{_≡_, refl, sym, ap, _∙_}
+use mathlib.Core.Path.{_≡_, sym, ap, _∙_}
 use mathlib.Core.Bool.{Bool, true, false}
-use native.Mathlib.Omega.{arith}
 use borrow.Author.Tests.{not-true, not-false}
 use Rattle.tapa.specs.Address.{categoryOf, handlerOf}
 use Rattle.tapa.specs.Types.{known}
@@ -19,28 +18,64 @@ use Rattle.router.proofs.rule_for.Tie as tie
 abbrev view : tie.Start → View
 view s = heldView (s .args .addresses .now) (s .args .opens .now) (s .args .count) (s .args .list .now) (s .args .len)
 
+-- from the test of each rule, a to e, back to the start
+abbrev at-a : tie.After-is-listed → tie.Start
+at-a c = c .before .before
+
+abbrev at-b : tie.After-is-known → tie.Start
+at-b c = at-a (c .before .before .before)
+
+abbrev at-c : tie.After-is-closed → tie.Start
+at-c c = at-b (c .before .before)
+
+abbrev at-d : tie.After-may-ask → tie.Start
+at-d c = at-c (c .before .before)
+
+abbrev at-e : tie.After-is-busy → tie.Start
+at-e c = at-d (c .before .before)
+
+-- the handler that the tests were given is the asked one
+asked-c : (c : tie.After-is-closed) → handlerOf (at-c c .args .head .destination) ≡ c .before .before .before .before .before .before .handler .result
+asked-c c = sym (c .before .before .before .before .before .before .handler .ensures)
+
 -- what each test says of the command
 module _ (b : Bool) where
   is-a : (c : tie.After-is-listed) → c .is-listed .result ≡ b
-      → listed (handlerOf (c .before .before .args .head .destination)) (view (c .before .before) .rows) ≡ b
-  is-a c e =
-      ap (λ (h : ℕ). listed h (view (c .before .before) .rows)) (sym (c .before .handler .ensures)) ∙ sym (c .is-listed .ensures) ∙ e
+      → listed (handlerOf (at-a c .args .head .destination)) (view (at-a c) .rows) ≡ b
+  is-a c e = ap (λ (h : ℕ). listed h (view (at-a c) .rows)) (sym (c .before .handler .ensures)) ∙ sym (c .is-listed .ensures) ∙ e
 
   is-b : (c : tie.After-is-known) → c .is-known .result ≡ b
-      → known (categoryOf (c .before .before .before .before .before .args .head .destination)) (c .before .before .before .before .before .args .head .kind) ≡ b
-  is-b c e =
-      ap (λ (k : ℕ). known k (c .before .before .before .before .before .args .head .kind)) (sym (c .before .category .ensures)) ∙ sym (c .is-known .ensures) ∙ e
+      → known (categoryOf (at-b c .args .head .destination)) (at-b c .args .head .kind) ≡ b
+  is-b c e = ap (λ (k : ℕ). known k (at-b c .args .head .kind)) (sym (c .before .category .ensures)) ∙ sym (c .is-known .ensures) ∙ e
 
   is-c : (c : tie.After-is-closed) → c .is-closed .result ≡ b
-      → closedTo (view (c .before .before .before .before .before .before .before) .rows) (handlerOf (c .before .before .before .before .before .before .before .args .head .destination)) (c .before .before .before .before .before .before .before .args .head .kind) ≡ b
-  is-c c e =
-      ap (λ (h : ℕ). closedTo (view (c .before .before .before .before .before .before .before) .rows) h (c .before .before .before .before .before .before .before .args .head .kind)) (sym (c .before .before .before .before .before .before .handler .ensures)) ∙ sym (c .is-closed .ensures) ∙ e
+      → closedTo (view (at-c c) .rows) (handlerOf (at-c c .args .head .destination)) (at-c c .args .head .kind) ≡ b
+  is-c c e = ap (λ (h : ℕ). closedTo (view (at-c c) .rows) h (at-c c .args .head .kind)) (asked-c c) ∙ sym (c .is-closed .ensures) ∙ e
+
+  is-d : (c : tie.After-may-ask) → c .may-ask .result ≡ b
+      → mayAsk (view (at-d c) .places) (at-d c .args .head .thread) (at-d c .args .head .source) ≡ b
+  is-d c e = sym (c .may-ask .ensures) ∙ e
 
   is-e : (c : tie.After-is-busy) → c .is-busy .result ≡ b
-      → busy (view (c .before .before .before .before .before .before .before .before .before .before .before) .places) (c .before .before .before .before .before .before .before .before .before .before .before .args .head .source) (handlerOf (c .before .before .before .before .before .before .before .before .before .before .before .args .head .destination)) (c .before .before .before .before .before .before .before .before .before .before .before .args .head .thread) ≡ b
+      → busy (view (at-e c) .places) (at-e c .args .head .source) (handlerOf (at-e c .args .head .destination)) (at-e c .args .head .thread) ≡ b
   is-e c e =
-      ap (λ (h : ℕ). busy (view (c .before .before .before .before .before .before .before .before .before .before .before) .places) (c .before .before .before .before .before .before .before .before .before .before .before .args .head .source) h (c .before .before .before .before .before .before .before .before .before .before .before .args .head .thread)) (sym (c .before .before .before .before .before .before .before .before .before .before .handler .ensures))
-      ∙ sym (c .is-busy .ensures) ∙ e
+      ap (λ (h : ℕ). busy (view (at-e c) .places) (at-e c .args .head .source) h (at-e c .args .head .thread))
+      (asked-c (c .before .before .before .before)) ∙ sym (c .is-busy .ensures) ∙ e
+
+-- a rule that did not apply, where the next is tested
+past-a : (c : tie.After-is-known) → listed (handlerOf (at-b c .args .head .destination)) (view (at-b c) .rows) ≡ true
+past-a c = is-a true (c .before .before .before) (not-false _ (c .before .before .if1 .left))
+
+past-b : (c : tie.After-is-closed) → known (categoryOf (at-c c .args .head .destination)) (at-c c .args .head .kind) ≡ true
+past-b c = is-b true (c .before .before) (not-false _ (c .before .if2 .left))
+
+past-c : (c : tie.After-may-ask)
+    → closedTo (view (at-d c) .rows) (handlerOf (at-d c .args .head .destination)) (at-d c .args .head .kind) ≡ false
+past-c c = is-c false (c .before .before) (c .before .if3 .left)
+
+past-d : (c : tie.After-is-busy)
+    → mayAsk (view (at-e c) .places) (at-e c .args .head .thread) (at-e c .args .head .source) ≡ true
+past-d c = is-d true (c .before .before) (not-false _ (c .before .if4 .left))
 
 handler-requires : tie.Need-handler-requires
 handler-requires c κs = search needs
@@ -49,7 +84,9 @@ is-listed-requires : tie.Need-is-listed-requires
 is-listed-requires c κs = search needs
 
 returns : tie.Need-returns
-returns c = rule-a _ (c .before .before .before .args .head) (is-a false (c .before) (not-true _ (c .if1 .taken)))
+returns c =
+    let a = c .before in
+    rule-a _ (at-a a .args .head) (is-a false a (not-true _ (c .if1 .taken)))
 
 category-requires : tie.Need-category-requires
 category-requires c κs = search needs
@@ -58,39 +95,53 @@ is-known-requires : tie.Need-is-known-requires
 is-known-requires c κs = search needs
 
 returns-2 : tie.Need-returns-2
-returns-2 c = rule-b _ (c .before .before .before .before .before .before .args .head) (is-a true (c .before .before .before .before) (not-false _ (c .before .before .before .if1 .left))) (is-b false (c .before) (not-true _ (c .if2 .taken)))
+returns-2 c =
+    let b = c .before in
+    rule-b _ (at-b b .args .head) (past-a b) (is-b false b (not-true _ (c .if2 .taken)))
 
 is-closed-requires : tie.Need-is-closed-requires
 is-closed-requires c κs = search needs
 
 returns-3 : tie.Need-returns-3
-returns-3 c = rule-c _ (c .before .before .before .before .before .before .before .before .args .head) (is-a true (c .before .before .before .before .before .before) (not-false _ (c .before .before .before .before .before .if1 .left))) (is-b true (c .before .before .before) (not-false _ (c .before .before .if2 .left)))
-    (is-c true (c .before) (c .if3 .taken))
+returns-3 c =
+    let k = c .before in
+    rule-c _ (at-c k .args .head) (past-a (k .before .before)) (past-b k) (is-c true k (c .if3 .taken))
 
 may-ask-requires : tie.Need-may-ask-requires
 may-ask-requires c κs = search needs
 
 returns-4 : tie.Need-returns-4
-returns-4 c = rule-d _ (c .before .before .before .before .before .before .before .before .before .before .args .head) (is-a true (c .before .before .before .before .before .before .before .before) (not-false _ (c .before .before .before .before .before .before .before .if1 .left))) (is-b true (c .before .before .before .before .before) (not-false _ (c .before .before .before .before .if2 .left)))
-    (is-c false (c .before .before .before) (c .before .before .if3 .left)) (sym (c .before .may-ask .ensures) ∙ not-true _ (c .if4 .taken))
+returns-4 c =
+    let d = c .before in
+    let k = d .before .before in
+    rule-d _ (at-d d .args .head) (past-a (k .before .before)) (past-b k) (past-c d) (is-d false d (not-true _ (c .if4 .taken)))
 
 is-busy-requires : tie.Need-is-busy-requires
 is-busy-requires c κs = search needs
 
 returns-5 : tie.Need-returns-5
-returns-5 c = rule-e _ (c .before .before .before .before .before .before .before .before .before .before .before .before .args .head) (is-a true (c .before .before .before .before .before .before .before .before .before .before) (not-false _ (c .before .before .before .before .before .before .before .before .before .if1 .left))) (is-b true (c .before .before .before .before .before .before .before) (not-false _ (c .before .before .before .before .before .before .if2 .left)))
-    (is-c false (c .before .before .before .before .before) (c .before .before .before .before .if3 .left)) (sym (c .before .before .before .may-ask .ensures) ∙ not-false _ (c .before .before .if4 .left)) (is-e true (c .before) (c .if5 .taken))
+returns-5 c =
+    let e = c .before in
+    let d = e .before .before in
+    let k = d .before .before in
+    rule-e _ (at-e e .args .head) (past-a (k .before .before)) (past-b k) (past-c d) (past-d e) (is-e true e (c .if5 .taken))
 
 returns-6 : tie.Need-returns-6
-returns-6 c = let a = c .before .before .before .before .before .before .before .before .before .before .before .before .before .args in
-    rule-f _ (a .head) (is-a true (c .before .before .before .before .before .before .before .before .before .before .before) (not-false _ (c .before .before .before .before .before .before .before .before .before .before .if1 .left))) (is-b true (c .before .before .before .before .before .before .before .before) (not-false _ (c .before .before .before .before .before .before .before .if2 .left)))
-    (is-c false (c .before .before .before .before .before .before) (c .before .before .before .before .before .if3 .left)) (sym (c .before .before .before .before .may-ask .ensures) ∙ not-false _ (c .before .before .before .if4 .left)) (is-e false (c .before .before) (c .before .if5 .left))
+returns-6 c =
+    let e = c .before .before in
+    let d = e .before .before in
+    let k = d .before .before in
+    let a = at-e e .args in
+    rule-f _ (a .head) (past-a (k .before .before)) (past-b k) (past-c d) (past-d e) (is-e false e (c .before .if5 .left))
     (rw (len (a .list .now) (a .len)) (c .if6 .taken))
 
 returns-7 : tie.Need-returns-7
-returns-7 c = let a = c .before .before .before .before .before .before .before .before .before .before .before .before .before .args in
-    no-rule _ (a .head) (is-a true (c .before .before .before .before .before .before .before .before .before .before .before) (not-false _ (c .before .before .before .before .before .before .before .before .before .before .if1 .left))) (is-b true (c .before .before .before .before .before .before .before .before) (not-false _ (c .before .before .before .before .before .before .before .if2 .left)))
-    (is-c false (c .before .before .before .before .before .before) (c .before .before .before .before .before .if3 .left)) (sym (c .before .before .before .before .may-ask .ensures) ∙ not-false _ (c .before .before .before .if4 .left)) (is-e false (c .before .before) (c .before .if5 .left))
+returns-7 c =
+    let e = c .before .before in
+    let d = e .before .before in
+    let k = d .before .before in
+    let a = at-e e .args in
+    no-rule _ (a .head) (past-a (k .before .before)) (past-b k) (past-c d) (past-d e) (is-e false e (c .before .if5 .left))
     (rw (len (a .list .now) (a .len)) (c .if6 .left))
 
 pub rule-for-spec : {M : Type 1} → statement M

@@ -1,6 +1,4 @@
 -- `router::start_with` meets its contract: the rows that set-up leaves are the table. Assumes nothing.
-use mathlib.Core.Path.{_≡_, refl, sym, ap, _∙_}
-use Rattle.table.specs.declared.SetUp.{SetUp}
 use Rattle.router.proofs.States.{starts}
 use borrow.Author.Needs.{needs}
 use Rattle.router.proofs.start_with.Statement.{statement}

@@ -1,6 +1,4 @@
 -- `Router::give_up` meets its contract: what is done in place is the next state. Assumes nothing.
-use mathlib.Core.Path.{_≡_, refl, sym, ap, _∙_}
-use Rattle.rules.specs.Judge.{giveUp}
 use Rattle.router.proofs.States.{gives-up}
 use borrow.Author.Needs.{needs}
 use Rattle.router.proofs.Router.give_up.Statement.{statement}

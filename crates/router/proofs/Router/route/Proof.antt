@@ -1,5 +1,4 @@
 -- `Router::route` meets its contract: what is done in place is the next state. Assumes nothing.
-use mathlib.Core.Path.{_≡_, refl, sym, ap, _∙_}
 use Rattle.rules.specs.Judge.{message}
 use Rattle.router.proofs.States.{routes}
 use borrow.Author.Needs.{needs}
