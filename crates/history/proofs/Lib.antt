@@ -6,4 +6,5 @@ pub mod Fates
 pub mod Totals
 pub mod Marks
 pub mod Promise
+pub mod Used
 pub mod Example
