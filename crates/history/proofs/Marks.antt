@@ -68,7 +68,8 @@ module _ (mark : ℕ → ℕ) where
     bears-it (Passed asker asked kind t) a z c y i e f = clash false z refl
     bears-it (Answered asked asker t code) a z c y i e f =
         let p = stands-addressed h c asked t y e f in
-        let s = count-some (asksExactly asked t) (v .places) (first-meets (asksExactly asked t) (asksExactly asked t) (v .places) (a .it) (a .found) (first-yes (asksExactly asked t) (v .places) (a .it) (a .found))) in
+        let x = first-yes (asksExactly asked t) (v .places) (a .it) (a .found) in
+        let s = count-some (asksExactly asked t) (v .places) (first-meets (asksExactly asked t) (asksExactly asked t) (v .places) (a .it) (a .found) x) in
         split (isOwed y)
         (λ b. absurd (omega (arith, exact-once v l asked t, s, counts (owesExactly asked t) c y i e (owed-exactly asked t y p b))))
         (λ b. ended-is (Answered asked asker t code) a refl c y i e (open-exactly asked t y p b))

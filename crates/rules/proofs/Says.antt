@@ -21,7 +21,8 @@ use Rattle.places.specs.Places.{openOn, owesExactly, standsIn}
 use Rattle.rules.specs.View.{View}
 use Rattle.rules.specs.declared.Outcome.{Outcome}
 use Rattle.rules.specs.declared.Outcome.the-variants.{Passed, Answered, Swallowed, Event, Turned, Given, Reset, Refused}
-use Rattle.rules.specs.Judge.{answerable, replyTests, late, reply, judgeResponse, isAddEvent, rules, judgeCommand, commonTests, judgeKind, judgeRead, judgeMessage, yields, judgeGiveUp, judgeReplaced, Call, message, giveUp, replaced, judge}
+use Rattle.rules.specs.Judge.{answerable, replyTests, late, reply, judgeResponse, isAddEvent, rules, judgeCommand, commonTests, judgeKind, judgeRead, judgeMessage}
+use Rattle.rules.specs.Judge.{yields, judgeGiveUp, judgeReplaced, Call, message, giveUp, replaced, judge}
 use Rattle.rules.specs.Says.{Spoken, OnlyRefused, ReadSays, GivesUp, Replaces, Says}
 use Rattle.rules.proofs.Lists.{split, checks-are, first-yes}
 use Rattle.rules.proofs.Waits.{open-thread}
