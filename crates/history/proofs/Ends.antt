@@ -25,8 +25,9 @@ use Rattle.rules.proofs.Waits.{exact-on, open-thread}
 use Rattle.rules.proofs.Allowed.{Allowed, Innermost, allowed}
 use Rattle.rules.proofs.After.{exact-once}
 use Rattle.history.specs.History.{Step, Entry, viewAfter, history, Sent, sent, standing, meets, ends, ended, endsOne, Was, Concerns}
+use Rattle.history.proofs.Law.{conduct-after}
 use Rattle.history.proofs.Lists.{put, alone, length-keep, in-count, in-kept, in-all}
-use Rattle.history.proofs.Told.{conduct-after, sent-open, stood, told, open-as, owed-as}
+use Rattle.history.proofs.Told.{sent-open, stood, told, open-as, owed-as}
 
 -- ---- commands that a test picks are as many as the places that it picks
 

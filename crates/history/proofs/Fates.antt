@@ -16,7 +16,7 @@ use Rattle.rules.specs.declared.Outcome.{Outcome}
 use Rattle.rules.specs.declared.Outcome.the-variants.{Passed, Answered, Swallowed, Event, Turned, Given, Reset, Refused}
 use Rattle.rules.proofs.Lists.{split, and-yes}
 use Rattle.places.proofs.Two.{asks-open, owes-owed}
-use Rattle.history.specs.History.{Entry, Sent, starts, sent, lives, livesOn, standing, meets, ends, isAnswered, isGiven, isSwallowed, isReset, timesEnded}
+use Rattle.history.specs.History.{Entry, Sent, starts, sent, lives, livesOn, standing, meets, ends, isAnswered, isGiven, isSwallowed, isReset, timesEnded, Fate}
 use Rattle.history.proofs.Lists.{in-either, in-all}
 use Rattle.history.proofs.Told.{sent-before, older, unsent}
 
@@ -64,10 +64,6 @@ and-no false = refl
 none-yet : (q : Outcome → Bool) (h : List Entry) (c : Sent) → length h ≤ c .no + 1 → timesEnded q h c ≡ 0
 none-yet q [] c k = refl
 none-yet q (e ∷ h) c k = rw (unsent h c (omega arith)) (omega (arith, and-no (q (e .outcome)), none-yet q h c (omega arith)))
-
-pub record Fate (h : List Entry) (c : Sent) : Type 0 where
-  pub open-or-ended : one (meets isOpen (standing h c)) + (timesEnded isAnswered h c + timesEnded isGiven h c) ≡ 1
-  pub owed-or-ended : one (meets isOwed (standing h c)) + (timesEnded isSwallowed h c + timesEnded isReset h c) ≡ timesEnded isGiven h c
 
 -- the entry of the command itself
 newest : (e : Entry) (h : List Entry) (c : Sent) → In c (starts (length h) (e .outcome)) → Fate (e ∷ h) c

@@ -1,7 +1,10 @@
 pub mod Lists
+pub mod Law
 pub mod Told
 pub mod Ends
 pub mod Fates
 pub mod Totals
 pub mod Marks
+pub mod Promise
+pub mod Used
 pub mod Example

@@ -23,8 +23,9 @@ use Rattle.rules.proofs.Allowed.{Allowed, allowed}
 use Rattle.rules.proofs.After.{exact-once}
 use Rattle.history.specs.History.{Step, Entry, viewAfter, history, Sent, starts, sent, lives, livesOn, standing, meets, ends, ended, endsOne}
 use Rattle.history.specs.Marks.{addressed, isReply, fits, replacedSince, used, Marked, Honest, Bears}
+use Rattle.history.proofs.Law.{conduct-after}
 use Rattle.history.proofs.Lists.{in-either, in-keep, in-count, in-one, in-all}
-use Rattle.history.proofs.Told.{conduct-after, sent-before, older, stood, told, stands-as}
+use Rattle.history.proofs.Told.{sent-before, older, stood, told, stands-as}
 use Rattle.history.proofs.Ends.{one-ended, stood-in}
 
 -- ---- the mark's address is that of the wait or of the owing
@@ -67,7 +68,8 @@ module _ (mark : ℕ → ℕ) where
     bears-it (Passed asker asked kind t) a z c y i e f = clash false z refl
     bears-it (Answered asked asker t code) a z c y i e f =
         let p = stands-addressed h c asked t y e f in
-        let s = count-some (asksExactly asked t) (v .places) (first-meets (asksExactly asked t) (asksExactly asked t) (v .places) (a .it) (a .found) (first-yes (asksExactly asked t) (v .places) (a .it) (a .found))) in
+        let x = first-yes (asksExactly asked t) (v .places) (a .it) (a .found) in
+        let s = count-some (asksExactly asked t) (v .places) (first-meets (asksExactly asked t) (asksExactly asked t) (v .places) (a .it) (a .found) x) in
         split (isOwed y)
         (λ b. absurd (omega (arith, exact-once v l asked t, s, counts (owesExactly asked t) c y i e (owed-exactly asked t y p b))))
         (λ b. ended-is (Answered asked asker t code) a refl c y i e (open-exactly asked t y p b))

@@ -20,19 +20,10 @@ use Rattle.rules.specs.Judge.{judge}
 use Rattle.rules.specs.Apply.{place, placesAfter}
 use Rattle.rules.specs.Conduct.{Conduct}
 use Rattle.rules.proofs.Lists.{split, clash, differ, eqb-same, without-same, All-map}
-use Rattle.rules.proofs.Allowed.{allowed}
-use Rattle.rules.proofs.Kept.{conduct-kept, conduct-fresh}
 use Rattle.rules.proofs.After.{exact-once}
-use Rattle.history.specs.History.{Step, Entry, viewAfter, history, Sent, starts, sent, lives, livesOn, standing, meets, openIn, owedIn}
+use Rattle.history.specs.History.{Step, Entry, viewAfter, history, Sent, starts, sent, lives, livesOn, standing, meets, openIn, owedIn, commands, debts}
+use Rattle.history.proofs.Law.{conduct-after}
 use Rattle.history.proofs.Lists.{put, collect, collect-all, collect-keep, collect-changed}
-
--- ---- the conduct, after any steps from any table
-
-pub conduct-after : (rows : List Row) (steps : List Step) → Conduct (viewAfter rows steps)
-conduct-after rows [] = conduct-fresh rows
-conduct-after rows (s ∷ steps) =
-    let v = viewAfter rows steps in
-    conduct-kept v (judge v (s .room) (s .call)) (conduct-after rows steps) (allowed v (s .room) (s .call))
 
 -- ---- the numbers of the commands
 
@@ -180,12 +171,6 @@ pub owed-as : (h : List Entry) (c : Sent) (y : Place) → standing h c ≡ some 
 owed-as h c y e s o = elim (stands-as h c y e) [ inl k ↦ clash (isOpen y) (ap isOpen k ∙ s) (rw o) | inr k ↦ k ]
 
 -- ---- the waits are the open commands, the owings are the owed ones, in order
-
-abbrev pub commands : List Sent → List Place
-commands cs = map (λ (c : Sent). c .command) cs
-
-abbrev pub debts : List Sent → List Place
-debts cs = map (λ (c : Sent). owing (c .command)) cs
 
 -- of some commands, those that a test picks: as places, and as commands
 module _ (h : List Entry) (q : Place → Bool) (f : Sent → Place) where

@@ -2,7 +2,7 @@
 use Prim.Native.Nat.{ℕ, _+_}
 use mathlib.Core.Path.{_≡_}
 use mathlib.Core.Bool.{Bool, true, false, _&&_, _||_, cond}
-use mathlib.Core.List.{List, [], _∷_, _++_}
+use mathlib.Core.List.{List, [], _∷_, _++_, map}
 use mathlib.Core.Option.{Option, none, some}
 use lib.Dec.{eqb}
 use lib.ListN.{length}
@@ -97,6 +97,13 @@ openIn h = keep (λ (c : Sent). meets isOpen (standing h c)) (sent h)
 abbrev pub owedIn : List Entry → List Sent
 owedIn h = keep (λ (c : Sent). meets isOwed (standing h c)) (sent h)
 
+-- as places: what is open is a wait, what is owed an owing
+abbrev pub commands : List Sent → List Place
+commands cs = map (λ (c : Sent). c .command) cs
+
+abbrev pub debts : List Sent → List Place
+debts cs = map (λ (c : Sent). owing (c .command)) cs
+
 -- ---- what an outcome ends
 
 -- whether it ends a wait or an owing
@@ -174,6 +181,12 @@ endsOne o = isAnswered o || (isGiven o || isSwallowed o)
 abbrev pub timesEnded : (Outcome → Bool) → List Entry → Sent → ℕ
 timesEnded q [] c = 0
 timesEnded q (e ∷ h) c = one (q (e .outcome) && meets (ends (e .outcome)) (standing h c)) + timesEnded q h c
+
+-- a command is open still, or was answered once, or given up once; one that was given up is owed still, or was swallowed once, or ended by one
+-- accepted replaced call
+pub record Fate (h : List Entry) (c : Sent) : Type 0 where
+  pub open-or-ended : one (meets isOpen (standing h c)) + (timesEnded isAnswered h c + timesEnded isGiven h c) ≡ 1
+  pub owed-or-ended : one (meets isOwed (standing h c)) + (timesEnded isSwallowed h c + timesEnded isReset h c) ≡ timesEnded isGiven h c
 
 -- a command was asked by this asker, of exactly this address, on this thread
 pub record Was (c : Sent) (asker asked t : ℕ) : Type 0 where

@@ -1,7 +1,6 @@
 -- An outcome says what its call said: its addresses, type and thread are those of the message's bytes, of the give up, of the replaced call.
 use Prim.Native.Nat.{ℕ}
 use mathlib.Core.Path.{_≡_, refl}
-use mathlib.Core.Bool.{true}
 use mathlib.Core.List.{List}
 use mathlib.Core.Option.{Option, none, some}
 use lib.Dec.{eqb, ltb}
@@ -22,62 +21,11 @@ use Rattle.places.specs.Places.{openOn, owesExactly, standsIn}
 use Rattle.rules.specs.View.{View}
 use Rattle.rules.specs.declared.Outcome.{Outcome}
 use Rattle.rules.specs.declared.Outcome.the-variants.{Passed, Answered, Swallowed, Event, Turned, Given, Reset, Refused}
-use Rattle.rules.specs.Judge.{answerable, replyTests, late, reply, judgeResponse, isAddEvent, rules, judgeCommand, commonTests, judgeKind, judgeRead, judgeMessage, yields, judgeGiveUp, judgeReplaced, Call, message, giveUp, replaced, judge}
+use Rattle.rules.specs.Judge.{answerable, replyTests, late, reply, judgeResponse, isAddEvent, rules, judgeCommand, commonTests, judgeKind, judgeRead, judgeMessage}
+use Rattle.rules.specs.Judge.{yields, judgeGiveUp, judgeReplaced, Call, message, giveUp, replaced, judge}
+use Rattle.rules.specs.Says.{Spoken, OnlyRefused, ReadSays, GivesUp, Replaces, Says}
 use Rattle.rules.proofs.Lists.{split, checks-are, first-yes}
 use Rattle.rules.proofs.Waits.{open-thread}
-
--- what a message with this head and this code can come to
-abbrev pub Spoken : Head → Coded → Outcome → Type 0
-Spoken h code (Passed asker asked kind t) = (h .source ≡ asker) × (h .destination ≡ asked) × (h .kind ≡ kind) × (h .thread ≡ t)
-Spoken h code (Answered asked asker t k) = (h .kind ≡ response) × (h .source ≡ asked) × (h .destination ≡ asker) × (h .thread ≡ t) × (code ≡ Code k)
-Spoken h code (Swallowed asked t) = (h .kind ≡ response) × (h .source ≡ asked) × (h .thread ≡ t)
-Spoken h code Event = isAddEvent h ≡ true
-Spoken h code (Turned asker asked t k) = (h .source ≡ asker) × (h .destination ≡ asked) × (h .thread ≡ t)
-Spoken h code (Given asker asked t) = ⊥
-Spoken h code (Reset a) = ⊥
-Spoken h code (Refused r) = Unit {0}
-
--- what bytes that are no message can come to
-abbrev pub OnlyRefused : Outcome → Type 0
-OnlyRefused (Passed asker asked kind t) = ⊥
-OnlyRefused (Answered asked asker t k) = ⊥
-OnlyRefused (Swallowed asked t) = ⊥
-OnlyRefused Event = ⊥
-OnlyRefused (Turned asker asked t k) = ⊥
-OnlyRefused (Given asker asked t) = ⊥
-OnlyRefused (Reset a) = ⊥
-OnlyRefused (Refused r) = Unit {0}
-
-abbrev pub ReadSays : Reading → Coded → Outcome → Type 0
-ReadSays (Message h) code o = Spoken h code o
-ReadSays (Unread r) code o = OnlyRefused o
-
--- what a give up of thread t can come to
-abbrev pub GivesUp : ℕ → Outcome → Type 0
-GivesUp t (Passed asker asked kind u) = ⊥
-GivesUp t (Answered asked asker u k) = ⊥
-GivesUp t (Swallowed asked u) = ⊥
-GivesUp t Event = ⊥
-GivesUp t (Turned asker asked u k) = ⊥
-GivesUp t (Given asker asked u) = u ≡ t
-GivesUp t (Reset a) = ⊥
-GivesUp t (Refused r) = Unit {0}
-
--- what a replaced call of the address a can come to
-abbrev pub Replaces : ℕ → Outcome → Type 0
-Replaces a (Passed asker asked kind u) = ⊥
-Replaces a (Answered asked asker u k) = ⊥
-Replaces a (Swallowed asked u) = ⊥
-Replaces a Event = ⊥
-Replaces a (Turned asker asked u k) = ⊥
-Replaces a (Given asker asked u) = ⊥
-Replaces a (Reset h) = h ≡ handlerOf a
-Replaces a (Refused r) = Unit {0}
-
-abbrev pub Says : Call → Outcome → Type 0
-Says (message s) o = ReadSays (readOf s) (codeOf (partOf s)) o
-Says (giveUp t) o = GivesUp t o
-Says (replaced a) o = Replaces a o
 
 -- ---- a message
 module _ (v : View) (h : Head) where

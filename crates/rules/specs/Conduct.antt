@@ -39,8 +39,8 @@ abbrev pub Chained : List Place → Type 0
 Chained [] = Unit {0}
 Chained (p ∷ ps) = (isOpen p ≡ true → mayAsk ps (p .thread) (p .asker) ≡ true) × Chained ps
 
--- 'on each thread the open questions form one chain, begun by a till driver, with no handler in it twice', and no handler has more
--- commands under way, open or owed, than one altogether or, where it is multi, one a thread
+-- on each thread the open questions form one chain, begun by a till driver, with no handler in it twice, and no handler has more commands
+-- under way, open or owed, than 'one altogether' or, where it is multi, 'one command a thread'
 pub record Conduct (v : View) : Type 0 where
   pub once : (h t : ℕ) → count (onSlot h t) (v .places) ≤ 1
   pub trees : (t : ℕ) → Tree t (v .places)

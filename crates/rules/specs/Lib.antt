@@ -1,5 +1,6 @@
 pub mod View
 pub mod Judge
 pub mod Apply
+pub mod Says
 pub mod Conduct
 pub mod Words

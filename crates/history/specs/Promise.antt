@@ -1,0 +1,61 @@
+-- Demand 3 as one promise: what holds of every history, and of the view that it leads to.
+use Prim.Native.Nat.{ℕ, _+_, _≤_}
+use mathlib.Core.Path.{_≡_}
+use mathlib.Core.Bool.{true}
+use mathlib.Core.List.{List, [], _∷_}
+use lib.ListN.{length}
+use Rattle.lists.specs.Lists.{All, In}
+use Rattle.table.specs.declared.Row.{Row}
+use Rattle.table.specs.Table.{Proper}
+use Rattle.places.specs.Places.{waits, owings}
+use Rattle.rules.specs.View.{View, fresh}
+use Rattle.rules.specs.declared.Outcome.{Outcome}
+use Rattle.rules.specs.Judge.{judge}
+use Rattle.rules.specs.Apply.{applied}
+use Rattle.rules.specs.Says.{Says}
+use Rattle.rules.specs.Words.{Worded, most}
+use Rattle.history.specs.History.{Step, Entry, Sent, sent, openIn, owedIn, commands, debts, ended, endsOne, isPassed, isAnswered, isGiven, Fate, Concerns, total}
+use Rattle.history.specs.Marks.{Bears}
+
+-- calls that were made one after the other, from a fresh router over these rows, each with its outcome and with the next state's view: what
+-- the contracts of the router's methods tell of a run of the code
+pub data Ran (rows : List Row) : List Entry → View → Type 0 where
+  begun : (v : View) → v ≡ fresh rows → Ran rows [] v
+  going : (h : List Entry) (v : View) → Ran rows h v
+      → (s : Step) (o : Outcome) (w : View) → o ≡ judge v (s .room) (s .call) → w ≡ applied o v
+      → Ran rows (record { step = s; outcome = o } ∷ h) w
+
+-- 'Each answered, given or swallowed outcome is shown to end exactly one.'
+abbrev pub EachEndsOne : List Entry → Type 0
+EachEndsOne [] = Unit {0}
+EachEndsOne (e ∷ h) = (endsOne (e .outcome) ≡ true → (d : Sent) × (ended h (e .outcome) ≡ d ∷ [])) × EachEndsOne h
+
+-- and a response goes to the asker of the command that it ends, from its asked address, on its thread
+abbrev pub EachConcerns : List Entry → Type 0
+EachConcerns [] = Unit {0}
+EachConcerns (e ∷ h) = ((d : Sent) → In d (ended h (e .outcome)) → Concerns (e .outcome) d) × EachConcerns h
+
+-- 'an answered or swallowed response bears the mark of the wait or owing it ends'
+abbrev pub EachBears : (mark : ℕ → ℕ) → List Entry → Type 0
+EachBears mark [] = Unit {0}
+EachBears mark (e ∷ h) = Bears mark h (e .outcome) × EachBears mark h
+
+pub record Promise (h : List Entry) (v : View) : Type 0 where
+  -- the law, in the page's words
+  pub law : Worded v
+  -- the waits are the open commands, and the owings the owed ones, in order
+  pub opens : waits (v .places) ≡ commands (openIn h)
+  pub owes : owings (v .places) ≡ debts (owedIn h)
+  -- what became of every passed command
+  pub fates : (c : Sent) → In c (sent h) → Fate h c
+  pub ends-one : EachEndsOne h
+  pub to-asker : EachConcerns h
+  -- the outcomes carry what the calls' bytes say
+  pub bytes : All (λ (e : Entry). Says (e .step .call) (e .outcome)) h
+  -- accepted = answered + given up + waiting
+  pub balance : total isPassed h ≡ total isAnswered h + total isGiven h + length (waits (v .places))
+
+-- and over an accepted table
+pub record Bounded (v : View) : Type 0 where
+  pub table : Proper (v .rows)
+  pub few : length (v .places) ≤ most
