@@ -1,15 +1,16 @@
 -- What the view was like where a call had an outcome. Every theorem about a step is drawn from here, and not from the text of `judge`.
 use Prim.Native.Nat.{ℕ, _≤_, _<_}
 use mathlib.Core.Path.{_≡_, refl}
-use mathlib.Core.Bool.{true, false, not}
+use mathlib.Core.Bool.{true, false, not, _&&_}
 use mathlib.Core.List.{List, [], _∷_}
 use mathlib.Core.Option.{Option, none, some}
 use lib.Dec.{eqb, ltb}
 use lib.ListN.{length}
 use borrow.Author.Tests.{not-false, ltb-false, leb-false, eqb-true, eq-eqb}
 use Rattle.lists.specs.Lists.{someOf, first}
-use Rattle.tapa.specs.Address.{handlerOf}
-use Rattle.tapa.specs.Codes.{response}
+use Rattle.tapa.specs.Address.{categoryOf, handlerOf}
+use Rattle.tapa.specs.Codes.{response, openHandler, eventHandler}
+use Rattle.tapa.specs.Types.{known}
 use Rattle.tapa.specs.declared.Refusal.the-variants.{NotInTable, StandsInAWait}
 use Rattle.message.specs.declared.Head.{Head}
 use Rattle.message.specs.declared.Reading.{Reading}
@@ -18,7 +19,6 @@ use Rattle.message.specs.declared.Coded.{Coded}
 use Rattle.message.specs.declared.Coded.the-variants.{Code, Missing}
 use Rattle.message.specs.Message.{readOf, partOf, codeOf}
 use Rattle.table.specs.Table.{listed, openedAt}
-use Rattle.tapa.specs.Codes.{eventHandler}
 use Rattle.places.specs.declared.Place.{Place}
 use Rattle.places.specs.Places.{openOn, asksExactly, owesExactly, standsIn}
 use Rattle.rules.specs.View.{View}
@@ -31,11 +31,13 @@ use Rattle.rules.proofs.Waits.{exact-on, open-thread}
 
 -- ---- an outcome, and what was so
 
--- a passed command met every rule
+-- a passed command met every rule, a to f
 pub record Fit (v : View) (asker asked kind t : ℕ) : Type 0 where
   pub asker-listed : listed (handlerOf asker) (v .rows) ≡ true
   pub thread-small : t ≤ 7
   pub asked-listed : listed (handlerOf asked) (v .rows) ≡ true
+  pub type-known : known (categoryOf asked) kind ≡ true
+  pub open-or-opens : not (openedAt (handlerOf asked) (v .rows)) && not (eqb kind openHandler) ≡ false
   pub may : mayAsk (v .places) t asker ≡ true
   pub free : busy (v .places) asker (handlerOf asked) t ≡ false
   pub room : length (v .places) < 48
@@ -112,13 +114,15 @@ event-is v = split (openedAt eventHandler (v .rows)) (λ p. rw p p) (λ p. rw p 
 
 command-is : (v : View) (h : Head) → listed (handlerOf (h .source)) (v .rows) ≡ true → h .thread ≤ 7 → Allowed v (judgeCommand v h)
 unfolding judgeCommand
-command-is v h known small =
-    let back : (listed (handlerOf (h .source)) (v .rows) ≡ true) × (h .thread ≤ 7) = (known, small) in
+command-is v h there small =
+    let back : (listed (handlerOf (h .source)) (v .rows) ≡ true) × (h .thread ≤ 7) = (there, small) in
     checks-are (Allowed v) (rules v h) (Passed (h .source) (h .destination) (h .kind) (h .thread)) (back, (back, (back, (back, (back, (back, tt))))))
     (λ a. record {
-      asker-listed = known;
+      asker-listed = there;
       thread-small = small;
       asked-listed = not-false _ (a .0);
+      type-known = not-false _ (a .1 .0);
+      open-or-opens = a .1 .1 .0;
       may = not-false _ (a .1 .1 .1 .0);
       free = a .1 .1 .1 .1 .0;
       room = leb-false 48 (length (v .places)) (a .1 .1 .1 .1 .1 .0);

@@ -1,4 +1,4 @@
--- The tests of the rules are the page's sentences, and the conduct is the law in its words.
+-- The tests of rules d and e are the page's sentences, and the conduct gives the law in plain words.
 use Prim.Native.Nat.{ℕ, _≤_}
 use mathlib.Core.Path.{_≡_, refl, sym, ap, _∙_}
 use mathlib.Core.Bool.{Bool, true, false, _||_, _&&_, or-true, or-false, and-true}

@@ -1,4 +1,5 @@
--- The law that the rules keep, from an accepted table under any sequence of calls.
+-- The law that the rules keep: it holds in the fresh view, and after every outcome that `judge` gives (proofs/Kept.antt).
+-- A chain is a tree that does not branch. The law is that of a tree, and one field more says that it is a chain.
 use Prim.Native.Nat.{ℕ, _≤_}
 use mathlib.Core.Path.{_≡_}
 use mathlib.Core.Bool.{Bool, true, false, _&&_, _||_}

@@ -1,4 +1,5 @@
--- Rules d and e, and the law, in the page's words. proofs/Words.antt and proofs/Bound.antt show that the tests and the conduct say the same.
+-- Rules d and e in the page's words, and what the conduct tells in plain words. proofs/Words.antt shows that the tests of d and e are these,
+-- and that the conduct gives the rest; proofs/Bound.antt has the bound.
 use Prim.Native.Nat.{ℕ, _+_, _*_, _≤_}
 use mathlib.Core.Path.{_≡_}
 use mathlib.Core.Bool.{Bool, true, false, not, _&&_, _||_}

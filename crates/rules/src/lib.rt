@@ -1,8 +1,9 @@
 // The rules of routing, as definitions: what comes of a call, and what it does to the state.
 //
-// `judge` decides and changes nothing; `applied` changes and decides nothing. Both speak of a view:
-// the rows of the table and the places, which are the passed commands that are not done with. The
-// outcome carries all that the change needs.
+// `judge` says which outcome a call has, and changes nothing. `applied` says what an outcome does to
+// the state, and checks nothing. Both speak of a view: the rows of the table and the places, which
+// are the passed commands that are not done with. The outcome names the command that it concerns;
+// whether an answer opens or closes a handler is read off that command's place.
 //
 // The conduct is the law that the rules keep: each thread's waits are one chain, begun by a till
 // driver, with no handler in it twice, and no handler has more commands under way than it may. That

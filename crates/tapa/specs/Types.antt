@@ -1,5 +1,6 @@
 -- Routing one message, rule b: 'type not in Tables 4 to 6 for the asked category'.
--- The rows are those of the tables, type by type. docs/DECISIONS.md has the cells that were in doubt.
+-- The rows are those of the tables, type by type, but for card '48', which the page leaves out; types that are in for all stand apart.
+-- docs/DECISIONS.md has the cells that were in doubt.
 use Prim.Native.Nat.{ℕ}
 use mathlib.Core.Bool.{Bool, _&&_, _||_}
 use mathlib.Core.List.{List, [], _∷_, _++_}
@@ -25,7 +26,7 @@ table4 =
     ∷ row 0x45 (0 ∷ 2 ∷ [])  -- ICC Query
     ∷ row 0x46 (2 ∷ [])  -- Verify Offline PIN
     ∷ row 0x47 (0 ∷ 2 ∷ [])  -- ICC Command partially encrypted
-    ∷ row 0x48 (0 ∷ [])  -- ICC Command fully encrypted
+    ∷ row 0x48 (0 ∷ [])  -- ICC Command fully encrypted (for card the page has '40' to '47')
     ∷ []
 
 -- Table 5: Terminal Messages, Handlers 3-5 (user interface 3, merchant 4, data store 5)
