@@ -1,0 +1,67 @@
+-- Sums at the desk (to be proved, as one table)
+use Prim.Native.Nat.{ℕ, _≤_}
+use mathlib.Core.Path.{_≡_}
+use mathlib.Core.Bool.{Bool, true, false}
+use mathlib.Core.List.{List, [], _∷_}
+use lib.ListN.{length, take, drop, getD}
+use Rattle.lists.specs.Lists.{onto, count}
+use Rattle.tapa.specs.Address.{handlerOf}
+use Rattle.tapa.specs.Codes.{queueEmpty, getEvent, eventHandler}
+use Rattle.tapa.specs.Numbers.{wordAt}
+use Rattle.tapa.specs.Said.{refused, says, read, accepted, turned, reply}
+use Rattle.message.specs.declared.Head.{Head}
+use Rattle.message.specs.declared.Reading.the-variants.{Message}
+use Rattle.message.specs.Message.{headOf, readOf, responseOf}
+use Rattle.message.specs.Said.{saidReading}
+use Rattle.table.specs.declared.Row.{Row}
+use Rattle.table.specs.Table.{listed, isMulti, judgeTable}
+use Rattle.table.specs.Said.{saidChecked}
+use Rattle.rules.specs.View.{View, fresh}
+use Rattle.rules.specs.Judge.{message, judge}
+use Rattle.rules.specs.Apply.{written}
+use Rattle.rules.specs.Said.{saidOutcome}
+use Rattle.cutter.specs.Cutting.{commandOf}
+use Rattle.cutter.specs.Handing.{commandsOf}
+use Rattle.events.specs.Events.{handled}
+use Rattle.events.specs.Said.{saidAnswer}
+
+-- a row of a table
+abbrev pub row : ℕ → Bool → Row
+row a o = record { address = a; opened = o }
+
+abbrev pub ten : List ℕ
+ten = 0x01 ∷ 0x00 ∷ 0x02 ∷ 0x02 ∷ 0xFF ∷ 0x03 ∷ 0x00 ∷ 0x02 ∷ 0xFF ∷ 0xF7 ∷ []
+
+-- a Get for the event queue: eight bytes, no data
+pub record IsGet (s : List ℕ) : Type 0 where
+  pub size : length s ≡ 8
+  pub none : wordAt s 6 ≡ 0
+  pub there : handlerOf (wordAt s 0) ≡ eventHandler
+  pub kind : getD s 4 0 ≡ getEvent
+
+pub record Desk : Type 0 where
+  -- 'C1 7 bytes: 1.'
+  pub c1 : (s : List ℕ) → length s ≡ 7 → saidReading (readOf s) ≡ refused 1
+  -- 'C2 8 bytes, length 0: read.'
+  pub c2 : (s : List ℕ) → length s ≡ 8 → wordAt s 6 ≡ 0 → readOf s ≡ Message (headOf s)
+  -- 'C3 length 1,024 and 1,032 bytes: read'
+  pub c3 : (s : List ℕ) → length s ≡ 1032 → wordAt s 6 ≡ 1024 → readOf s ≡ Message (headOf s)
+  -- 'C4 length 1,025: 2.'
+  pub c4 : (s : List ℕ) → 8 ≤ length s → wordAt s 6 ≡ 1025 → saidReading (readOf s) ≡ refused 2
+  -- 'C5 '0202' closed, `0202 0100 45 03 0000`: turned, `0100 0202 FF 03 0002 FFF7`.'
+  pub c5 : saidOutcome (judge (fresh (row 0x0100 true ∷ row 0x0202 false ∷ [])) 10 (message (0x02 ∷ 0x02 ∷ 0x01 ∷ 0x00 ∷ 0x45 ∷ 0x03 ∷ 0x00 ∷ 0x00 ∷ [])))
+      ≡ says turned ten
+  -- 'C6 response with 248 data bytes, code included: one command, P2 '00'.'
+  pub c6 : (part : List ℕ) (thread : ℕ) → length part ≡ 248 → commandsOf part thread ≡ commandOf thread 0x00 part ∷ []
+  -- 'C7 249: 248 then 1.'
+  pub c7 : (part : List ℕ) (thread : ℕ) → length part ≡ 249
+      → commandsOf part thread ≡ commandOf thread 0x01 (take 248 part) ∷ commandOf thread 0x00 (drop 248 part) ∷ []
+  -- 'C9 Get on an empty queue: 'FF72'.'
+  pub c9 : (s buffer : List ℕ) → IsGet s → 13 ≤ length buffer
+      → handled [] s buffer .reply ≡ onto (responseOf (wordAt s 2) (wordAt s 0) (getD s 5 0) queueEmpty) buffer
+  -- 'C11 thread 8: 5.'
+  pub c11 : (v : View) (room : ℕ) (s : List ℕ) (h : Head) → 10 ≤ room → readOf s ≡ Message h → listed (handlerOf (h .source)) (v .rows) ≡ true → h .thread ≡ 8
+      → saidOutcome (judge v room (message s)) ≡ refused 5
+  -- 'C12 four multi rows: accepted; five: 13.'
+  pub c12-four : saidChecked (judgeTable (row 0x0100 true ∷ row 0x0000 true ∷ row 0x0001 true ∷ row 0x0101 true ∷ row 0x0202 true ∷ [])) ≡ says accepted []
+  pub c12-five : saidChecked (judgeTable (row 0x0100 true ∷ row 0x0000 true ∷ row 0x0001 true ∷ row 0x0101 true ∷ row 0x0002 true ∷ [])) ≡ refused 13
