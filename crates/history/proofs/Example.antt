@@ -8,8 +8,9 @@ use lib.Dec.{eqb}
 use Rattle.tapa.specs.Address.{categoryOf, handlerOf, multi}
 use Rattle.tapa.specs.Types.{own, common}
 use Rattle.message.specs.Message.{readOf, partOf, codeOf}
-use Rattle.rules.specs.declared.Outcome.the-variants.{Passed, Answered, Swallowed, Given}
-use Rattle.rules.specs.Judge.{Call, message, late, reply, judgeResponse, busy, judgeCommand, judgeKind, judgeRead, judgeMessage, yields, judgeGiveUp}
+use Rattle.table.specs.declared.Row.{Row}
+use Rattle.rules.specs.declared.Outcome.the-variants.{Passed, Answered, Swallowed, Given, Reset}
+use Rattle.rules.specs.Judge.{Call, message, giveUp, replaced, late, reply, judgeResponse, busy, judgeCommand, judgeKind, judgeRead, judgeMessage, yields, judgeGiveUp, judgeReplaced}
 use Rattle.rules.specs.Apply.{place, reopened}
 use Rattle.rules.proofs.Lists.{clash}
 use Rattle.rules.proofs.Sums.{rows, first-call, second-call, third-call, fourth-call}
@@ -83,3 +84,36 @@ honest = (
 pub late-bears : Bears mark (history rows session) (Swallowed 0x0001 3)
 unfolding readOf partOf codeOf categoryOf handlerOf multi own common late reply judgeResponse busy judgeCommand judgeKind judgeRead judgeMessage yields judgeGiveUp reopened
 late-bears = marks mark rows session (step late-call) honest
+
+-- ---- and over a replaced call: the reader gives no reply, is given up, exchanged and opened; the response that then comes replies to Open Handler
+
+abbrev lent : List Row
+lent = record { address = 0x0100; opened = true } ∷ record { address = 0x0202; opened = true } ∷ []
+
+abbrev replaced-run : List Step
+replaced-run =
+    step (message (0x01 ∷ 0x00 ∷ 0x02 ∷ 0x02 ∷ 0xFF ∷ 0x03 ∷ 0x00 ∷ 0x02 ∷ 0x00 ∷ 0x00 ∷ []))
+    ∷ step (message (0x02 ∷ 0x02 ∷ 0x01 ∷ 0x00 ∷ 0xF0 ∷ 0x03 ∷ 0x00 ∷ 0x00 ∷ []))
+    ∷ step (replaced 0x0202)
+    ∷ step (giveUp 3)
+    ∷ step (message (0x02 ∷ 0x02 ∷ 0x01 ∷ 0x00 ∷ 0x45 ∷ 0x03 ∷ 0x00 ∷ 0x00 ∷ []))
+    ∷ []
+
+pub replaced-outcomes : map (λ (e : Entry). e .outcome) (history lent replaced-run)
+    ≡ Answered 0x0202 0x0100 3 0 ∷ Passed 0x0100 0x0202 0xF0 3 ∷ Reset 0x0202 ∷ Given 0x0100 0x0202 3 ∷ Passed 0x0100 0x0202 0x45 3 ∷ []
+unfolding readOf partOf codeOf categoryOf handlerOf multi own common late reply judgeResponse busy judgeCommand judgeKind judgeRead judgeMessage yields judgeGiveUp judgeReplaced reopened
+replaced-outcomes = refl
+
+pub honest-replaced : Honest (λ (n : ℕ). 3) (history lent replaced-run)
+unfolding readOf partOf codeOf categoryOf handlerOf multi own common late reply judgeResponse busy judgeCommand judgeKind judgeRead judgeMessage yields judgeGiveUp judgeReplaced reopened
+honest-replaced = (
+  λ e. record {
+    of-it = record { no = 3; command = place 0x0100 0x0202 0xF0 3 };
+    numbered = refl;
+    passed-before = inl refl;
+    its-address = refl;
+    not-used = refl;
+    not-replaced = refl;
+  },
+  (λ (e : false ≡ true). clash false e refl, (λ (e : false ≡ true). clash false e refl, (λ (e : false ≡ true). clash false e refl, (λ (e : false ≡ true). clash false e refl, tt)))),
+)

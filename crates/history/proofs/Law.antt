@@ -1,4 +1,4 @@
--- The law of the rules after any steps from any table, and the bound from any accepted one.
+-- The law of the rules after any steps from any table.
 use mathlib.Core.List.{List, [], _∷_}
 use Rattle.lists.specs.Lists.{All}
 use Rattle.table.specs.declared.Row.{Row}
@@ -9,9 +9,7 @@ use Rattle.rules.specs.Conduct.{Conduct}
 use Rattle.rules.proofs.Allowed.{allowed}
 use Rattle.rules.proofs.Says.{says}
 use Rattle.rules.proofs.Kept.{conduct-kept, conduct-fresh, proper-kept}
-use Rattle.rules.proofs.Bound.{bound-all}
 use Rattle.history.specs.History.{Step, Entry, viewAfter, history}
-use Rattle.history.specs.Promise.{Bounded}
 
 pub conduct-after : (rows : List Row) (steps : List Step) → Conduct (viewAfter rows steps)
 conduct-after rows [] = conduct-fresh rows
@@ -19,13 +17,9 @@ conduct-after rows (s ∷ steps) =
     let v = viewAfter rows steps in
     conduct-kept v (judge v (s .room) (s .call)) (conduct-after rows steps) (allowed v (s .room) (s .call))
 
-proper-after : (rows : List Row) (steps : List Step) → Proper rows → Proper (viewAfter rows steps .rows)
+pub proper-after : (rows : List Row) (steps : List Step) → Proper rows → Proper (viewAfter rows steps .rows)
 proper-after rows [] p = p
 proper-after rows (s ∷ steps) p = let v = viewAfter rows steps in proper-kept v (judge v (s .room) (s .call)) (proper-after rows steps p)
-
-pub bounded-after : (rows : List Row) (steps : List Step) → Proper rows → Bounded (viewAfter rows steps)
-bounded-after rows steps p =
-    let t = proper-after rows steps p in record { table = t; few = bound-all (viewAfter rows steps) t (conduct-after rows steps) }
 
 pub says-after : (rows : List Row) (steps : List Step) → All (λ (e : Entry). Says (e .step .call) (e .outcome)) (history rows steps)
 says-after rows [] = tt

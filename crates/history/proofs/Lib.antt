@@ -1,6 +1,7 @@
 pub mod Lists
 pub mod Law
 pub mod Told
+pub mod Bound
 pub mod Ends
 pub mod Fates
 pub mod Totals

@@ -10,7 +10,8 @@ use Rattle.rules.proofs.Words.{worded}
 use Rattle.history.specs.History.{Step, Entry, viewAfter, history}
 use Rattle.history.specs.Marks.{Honest}
 use Rattle.history.specs.Promise.{Ran, begun, going, EachEndsOne, EachConcerns, EachBears, Promise, Bounded}
-use Rattle.history.proofs.Law.{conduct-after, bounded-after, says-after}
+use Rattle.history.proofs.Law.{conduct-after, says-after}
+use Rattle.history.proofs.Bound.{bounded-after}
 use Rattle.history.proofs.Told.{waits-told, owings-told}
 use Rattle.history.proofs.Ends.{ends-exactly-one, ends-its-own}
 use Rattle.history.proofs.Fates.{fate}
@@ -61,8 +62,8 @@ same rows (going g v r s o w e f) =
 pub promise-ran : (rows : List Row) {h : List Entry} {v : View} → Ran rows h v → Promise h v
 promise-ran rows r = let i = same rows r in rw (i .entries, i .view) at (promise rows (i .steps))
 
-pub bounded-ran : (rows : List Row) {h : List Entry} {v : View} → Proper rows → Ran rows h v → Bounded v
-bounded-ran rows p r = let i = same rows r in rw (i .view) at (bounded-after rows (i .steps) p)
+pub bounded-ran : (rows : List Row) {h : List Entry} {v : View} → Proper rows → Ran rows h v → Bounded rows h v
+bounded-ran rows p r = let i = same rows r in rw (i .entries, i .view) at (bounded-after rows (i .steps) p)
 
 pub marks-ran : (mark : ℕ → ℕ) (rows : List Row) {h : List Entry} {v : View} → Ran rows h v → Honest mark h → EachBears mark h
 marks-ran mark rows r m = let i = same rows r in rw (i .entries) at (each-bears mark rows (i .steps) (rw (i .entries) m))

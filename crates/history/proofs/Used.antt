@@ -39,7 +39,7 @@ module _ (t : Rows) (e : judgeRows t ≡ Accepted) where
   pub promise-used : {h : List Entry} {r : Router} → Used t h r → Promise h (viewOf r)
   promise-used u = promise-ran (heldRows t) (used-ran u)
 
-  pub bounded-used : {h : List Entry} {r : Router} → Used t h r → Bounded (viewOf r)
+  pub bounded-used : {h : List Entry} {r : Router} → Used t h r → Bounded (heldRows t) h (viewOf r)
   bounded-used u = bounded-ran (heldRows t) (rows-proper t e) (used-ran u)
 
   pub marks-used : (mark : ℕ → ℕ) {h : List Entry} {r : Router} → Used t h r → Honest mark h → EachBears mark h

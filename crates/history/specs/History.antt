@@ -182,6 +182,7 @@ abbrev pub timesEnded : (Outcome → Bool) → List Entry → Sent → ℕ
 timesEnded q [] c = 0
 timesEnded q (e ∷ h) c = one (q (e .outcome) && meets (ends (e .outcome)) (standing h c)) + timesEnded q h c
 
+-- (What an answered, given or swallowed outcome ends is exactly one command: `EachEndsOne` of specs/Promise.antt gives this its content.)
 -- a command is open still, or was answered once, or given up once; one that was given up is owed still, or was swallowed once, or ended by one
 -- accepted replaced call
 pub record Fate (h : List Entry) (c : Sent) : Type 0 where

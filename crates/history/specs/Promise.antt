@@ -1,5 +1,5 @@
 -- Demand 3 as one promise: what holds of every history, and of the view that it leads to.
-use Prim.Native.Nat.{ℕ, _+_, _≤_}
+use Prim.Native.Nat.{ℕ, _+_, _*_, _≤_}
 use mathlib.Core.Path.{_≡_}
 use mathlib.Core.Bool.{true}
 use mathlib.Core.List.{List, [], _∷_}
@@ -13,7 +13,7 @@ use Rattle.rules.specs.declared.Outcome.{Outcome}
 use Rattle.rules.specs.Judge.{judge}
 use Rattle.rules.specs.Apply.{applied}
 use Rattle.rules.specs.Says.{Says}
-use Rattle.rules.specs.Words.{Worded, most}
+use Rattle.rules.specs.Words.{Worded, singles, multis, most}
 use Rattle.history.specs.History.{Step, Entry, Sent, sent, openIn, owedIn, commands, debts, ended, endsOne, isPassed, isAnswered, isGiven, Fate, Concerns, total}
 use Rattle.history.specs.Marks.{Bears}
 
@@ -55,7 +55,9 @@ pub record Promise (h : List Entry) (v : View) : Type 0 where
   -- accepted = answered + given up + waiting
   pub balance : total isPassed h ≡ total isAnswered h + total isGiven h + length (waits (v .places))
 
--- and over an accepted table
-pub record Bounded (v : View) : Type 0 where
+-- and over an accepted table: the open commands and the owed ones 'never exceed the single handlers plus eight times the rest', and so
+-- are at most 44
+pub record Bounded (rows : List Row) (h : List Entry) (v : View) : Type 0 where
   pub table : Proper (v .rows)
+  pub bound : length (openIn h) + length (owedIn h) ≤ singles rows + 8 * multis rows
   pub few : length (v .places) ≤ most

@@ -1,0 +1,55 @@
+-- 'Open questions plus late replies owed never exceed the single handlers plus eight times the rest', of the history alone.
+use Prim.Native.Nat.{ℕ, _+_, _*_, _≤_}
+use mathlib.Core.Path.{_≡_, refl, ap, _∙_}
+use mathlib.Core.Bool.{Bool, not}
+use mathlib.Core.List.{List, [], _∷_}
+use native.Mathlib.Omega.{arith}
+use lib.ListN.{length, length-map}
+use Rattle.lists.specs.Lists.{count}
+use Rattle.table.specs.declared.Row.{Row}
+use Rattle.table.specs.Table.{isAt, isMulti, marked, setOpened, Proper}
+use Rattle.places.specs.declared.Place.{Place}
+use Rattle.places.specs.Places.{waits, owings, owing}
+use Rattle.places.proofs.Two.{two}
+use Rattle.rules.specs.View.{View}
+use Rattle.rules.specs.Words.{singles, multis, mostOf}
+use Rattle.rules.specs.Judge.{judge}
+use Rattle.rules.proofs.Lists.{split}
+use Rattle.rules.proofs.Kept.{rows-by}
+use Rattle.rules.proofs.Bound.{bound, bound-all}
+use Rattle.history.specs.History.{Step, Sent, viewAfter, history, openIn, owedIn}
+use Rattle.history.specs.Promise.{Bounded}
+use Rattle.history.proofs.Law.{conduct-after, proper-after}
+use Rattle.history.proofs.Told.{waits-told, owings-told}
+
+-- a mark that is set moves no count of rows
+count-marked : (q : Row → Bool) → ((b : Bool) (r : Row) → q (marked b r) ≡ q r) → (h : ℕ) (b : Bool) (rows : List Row)
+    → count q (setOpened h b rows) ≡ count q rows
+count-marked q f h b [] = refl
+count-marked q f h b (r ∷ rows) = split (isAt h r) (λ p. rw (p, f b r)) (λ p. rw (p, count-marked q f h b rows))
+
+most-marked : (h : ℕ) (b : Bool) (rows : List Row) → mostOf (setOpened h b rows) ≡ mostOf rows
+most-marked h b rows =
+    let s = count-marked (λ (r : Row). not (isMulti r)) (λ c r. refl) h b rows in
+    let m = count-marked isMulti (λ c r. refl) h b rows in
+    omega (arith, s, m)
+
+most-after : (rows : List Row) (steps : List Step) → mostOf (viewAfter rows steps .rows) ≡ mostOf rows
+most-after rows [] = refl
+most-after rows (s ∷ steps) =
+    let v = viewAfter rows steps in
+    rows-by (λ (x : List Row). mostOf x ≡ mostOf rows) v (most-after rows steps) (λ h b. most-marked h b (v .rows) ∙ most-after rows steps) (judge v (s .room) (s .call))
+
+pub open-and-owed : (rows : List Row) (steps : List Step)
+    → length (openIn (history rows steps)) + length (owedIn (history rows steps)) ≤ singles rows + 8 * multis rows
+open-and-owed rows steps =
+    let v = viewAfter rows steps in
+    let h = history rows steps in
+    let w : length (waits (v .places)) ≡ length (openIn h) = ap length (waits-told rows steps) ∙ length-map (openIn h) (λ (c : Sent). c .command) in
+    let o : length (owings (v .places)) ≡ length (owedIn h) = ap length (owings-told rows steps) ∙ length-map (owedIn h) (λ (c : Sent). owing (c .command)) in
+    omega (arith, bound v (conduct-after rows steps), most-after rows steps, two (v .places), w, o)
+
+pub bounded-after : (rows : List Row) (steps : List Step) → Proper rows → Bounded rows (history rows steps) (viewAfter rows steps)
+bounded-after rows steps p =
+    let t = proper-after rows steps p in
+    record { table = t; bound = open-and-owed rows steps; few = bound-all (viewAfter rows steps) t (conduct-after rows steps) }
