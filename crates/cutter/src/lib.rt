@@ -156,7 +156,7 @@ pub fn cut_next(part: &[u8], thread: u8, at: usize, buffer: &mut [u8]) -> Handed
 }
 
 // A cutter at the first place of some data.
-pub fn over<'a>(part: &'a [u8], thread: u8) -> Cutter<'a>
+fn over<'a>(part: &'a [u8], thread: u8) -> Cutter<'a>
     ensures { λ r. ⌜ r ≡ cutterAt (part .entry) thread 0 ⌝ }
 {
     Cutter {

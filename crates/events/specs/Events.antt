@@ -117,7 +117,7 @@ judge es (Add e) = cond (ltb (length es) most) (Added e) Ignored
 judge es WrongAdd = Ignored
 -- 'Get takes the oldest, or 'FF72'.'
 judge es Get = takenOr noEvents (oldest es)
--- 'Find takes the oldest that meets its search type: unknown type 'FFFB', empty 'FF72', no match 'FF73', in that order.'
+-- 'Find takes the oldest that meets its search type (Search Type Coding table): unknown type 'FFFB', empty 'FF72', no match 'FF73', in that order.'
 judge es (Find s) =
     checks
     ((not (knownSearch (s .by)), Coded unsupportedOperation)

@@ -18,7 +18,7 @@ abbrev pub together : List ℕ → List (List ℕ) → List ℕ
 together first [] = first
 together first (next ∷ rest) = first ++ together next rest
 
--- 'All but the last one have SW1SW2 = '9601'', the last has '9000' (9.1.3.3)
+-- all but the last piece have the status '9601', the last has '9000' (9.1.3.3)
 abbrev pub sent : List ℕ → List (List ℕ) → List (List ℕ)
 sent first [] = (first ++ (0x90 ∷ 0x00 ∷ [])) ∷ []
 sent first (next ∷ rest) = (first ++ (0x96 ∷ 0x01 ∷ [])) ∷ sent next rest

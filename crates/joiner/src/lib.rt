@@ -5,9 +5,9 @@
 // ended. '9601' asks for Get Next; at '9000' the whole is judged, and handed on as a part of the
 // buffer. The same buffer is to be lent until then: the header is read from it.
 //
-// A response comes without its destination and code. The destination is the source of the last
-// ICC command on its thread, which `keep` holds; the code is '0000'. The PSAM counts the code in
-// the announced length although it leaves it out.
+// A response's destination is replaced by the source of the last ICC command on its thread, which
+// `keep` holds, and the code '0000' is put at its end. The PSAM counts the code in the announced
+// length although it leaves it out.
 //
 // That every way of cutting a message joins to the same message: proofs/Delivered.antt.
 use message::Reading;

@@ -15,8 +15,8 @@ use Rattle.router.specs.declared.Routed.{Routed}
 abbrev pub viewOf : Router → View
 viewOf r = record { rows = rowsOf (r .addresses) (r .opens) (r .count); places = placesOf (r .list) (r .len) }
 
--- the law of every state that a start or a call hands back: the arrays hold what the view says and nothing else, the table was accepted,
--- and the places keep the conduct
+-- the law of every state that a start or a call hands back: the arrays hold what the view says and nothing else, the table was accepted
+-- (or has no rows, after a refused start), and the places keep the conduct
 pub record Lawful (r : Router) : Type 0 where
   pub held : places.Lawful (r .list) (r .len)
   pub columns : Columns (r .addresses) (r .opens) (r .count)
