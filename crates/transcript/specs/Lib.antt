@@ -1,1 +1,2 @@
 pub mod Prescribed
+pub mod Left
