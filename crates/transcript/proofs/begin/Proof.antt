@@ -1,25 +1,18 @@
-use Rattle.transcript.proofs.Rows.{begun, long-start, rows-start}
+-- `transcript::begin` meets its contract: too long, or the state after the rows. Assumes nothing.
 use borrow.Author.Needs.{needs}
+use Rattle.transcript.proofs.Rows.{begun, long-start, rows-start}
 use Rattle.transcript.proofs.begin.Statement.{statement}
 use Rattle.transcript.proofs.begin.Tie as tie
-use Rattle.transcript.proofs.begin.Reads as reads
-use Rattle.transcript.proofs.begin.Lts as lts
-use Rattle.transcript.proofs.read_rows.Reads as read-rows-reads
-use Rattle.transcript.proofs.settled.Reads as settled-reads
 
--- src/lib.rt:346:9
 settled-requires : tie.Need-settled-requires
 settled-requires c κs = search needs
 
--- src/lib.rt:346:9
 returns : tie.Need-returns
 returns c = begun (c .before .before .before .args .input .now) _ (long-start (c .before .before .before .args .input .now) _ (c .before .if1 .taken) (c .settled .ensures))
 
--- src/lib.rt:348:5
 read-rows-requires : tie.Need-read-rows-requires
 read-rows-requires c κs = search needs
 
--- src/lib.rt:342:1
 returns-2 : tie.Need-returns-2
 returns-2 c = begun (c .before .before .before .args .input .now) _ (rows-start (c .before .before .before .args .input .now) _ (c .before .if1 .left) (c .read-rows .ensures))
 

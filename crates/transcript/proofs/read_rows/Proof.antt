@@ -1,3 +1,4 @@
+-- `transcript::read_rows` meets its contract: the loop reads the rows place by place, as the definition does. Assumes nothing.
 use borrow.Author.Needs.{needs}
 use mathlib.Core.Path.{refl, sym, _∙_}
 use native.Mathlib.Omega.{arith}
@@ -8,13 +9,6 @@ use Rattle.transcript.specs.Left.{rowsRun}
 use Rattle.transcript.proofs.Rows.{Fuelled, fuel-start, fuel-row, fuel-end, inside-row}
 use Rattle.transcript.proofs.read_rows.Statement.{statement}
 use Rattle.transcript.proofs.read_rows.Tie as tie
-use Rattle.transcript.proofs.read_rows.Reads as reads
-use Rattle.transcript.proofs.read_rows.Lts as lts
-use Rattle.fields.proofs.row_at.Reads as row-at-reads
-use Rattle.table.proofs.no_rows.Reads as no-rows-reads
-use Rattle.table.proofs.with_row.Reads as with-row-reads
-use Rattle.transcript.proofs.opened.Reads as opened-reads
-use Rattle.transcript.proofs.settled.Reads as settled-reads
 
 abbrev Inv-loop : tie.InvT-loop
 Inv-loop input rows₀ at₀ number₀ rows at number = (at ≤ length input) × (number ≤ at + 1) × Fuelled input (rowsRun (suc (length input)) input noRows 1 0) rows number at
@@ -22,59 +16,45 @@ Inv-loop input rows₀ at₀ number₀ rows at number = (at ≤ length input) ×
 abbrev μ-loop : tie.MeasureT-loop
 μ-loop input rows₀ at₀ number₀ rows at number = length input - at
 
--- src/lib.rt:321:9
 no-rows-requires : tie.Need-no-rows-requires Inv-loop μ-loop
 no-rows-requires c κs = search needs
 
--- src/lib.rt:324:5
 loop-holds : tie.Need-loop-holds Inv-loop μ-loop
 loop-holds c = (omega arith, omega arith, fuel-start _ _ (c .no-rows .ensures))
 
--- src/lib.rt:325:15
 row-at-requires : tie.Need-row-at-requires Inv-loop μ-loop
 row-at-requires c κs = search needs
 
--- src/lib.rt:327:17
 enum-known-address : tie.Need-enum-known-address Inv-loop μ-loop
 enum-known-address c = search needs
 
--- src/lib.rt:331:17
 with-row-requires : tie.Need-with-row-requires Inv-loop μ-loop
 with-row-requires c κs = search needs
 
--- src/lib.rt:333:17
 add-number : tie.Need-add-number Inv-loop μ-loop
 add-number c = omega (arith, c .before .before .before .before .before .loop .inv .0, c .before .before .before .before .before .loop .inv .1)
 
--- src/lib.rt:324:5
 loop-less : tie.Need-loop-less Inv-loop μ-loop
 loop-less c = let b = inside-row (c .before .before .before .before .before .before .before .before .args .input .now) (c .before .before .before .before .before .loop .at) _ (sym (c .before .before .before .before .row-at .ensures) ∙ c .before .before .address .given .1) in omega (arith, b .0, b .1)
 
--- src/lib.rt:324:5
 loop-again : tie.Need-loop-again Inv-loop μ-loop
 loop-again c = let e = sym (c .before .before .before .before .row-at .ensures) ∙ c .before .before .address .given .1 in let b = inside-row (c .before .before .before .before .before .before .before .before .args .input .now) (c .before .before .before .before .before .loop .at) _ e in (b .1, omega (arith, b .0, c .before .before .before .before .before .loop .inv .1), fuel-row (c .before .before .before .before .before .before .before .before .args .input .now) _ (c .before .before .before .before .before .loop .rows) (c .before .before .before .before .before .loop .number) (c .before .before .before .before .before .loop .at) (c .before .before .before .before .before .loop .inv .2) (c .before .before .before .before .before .loop .inv .0) _ _ _ _ e (c .with-row .ensures))
 
--- src/lib.rt:335:57
 enum-told : tie.Need-enum-told Inv-loop μ-loop
 enum-told c = search needs
 
--- src/lib.rt:335:30
 settled-requires : tie.Need-settled-requires Inv-loop μ-loop
 settled-requires c κs = search needs
 
--- src/lib.rt:335:30
 returns : tie.Need-returns Inv-loop μ-loop
 returns c = c .settled .ensures ∙ fuel-end (c .before .before .before .before .before .before .before .args .input .now) _ (c .before .before .before .before .loop .rows) (c .before .before .before .before .loop .number) (c .before .before .before .before .loop .at) (c .before .before .before .before .loop .inv .2) (c .before .before .before .before .loop .inv .0) _ _ (sym (c .before .before .before .row-at .ensures) ∙ c .before .enum-told .given .1) (λ k. refl)
 
--- src/lib.rt:336:30
 enum-told-2 : tie.Need-enum-told-2 Inv-loop μ-loop
 enum-told-2 c = search needs
 
--- src/lib.rt:336:30
 opened-requires : tie.Need-opened-requires Inv-loop μ-loop
 opened-requires c κs = search needs
 
--- src/lib.rt:336:30
 returns-2 : tie.Need-returns-2 Inv-loop μ-loop
 returns-2 c = c .opened .ensures ∙ fuel-end (c .before .before .before .before .before .before .before .args .input .now) _ (c .before .before .before .before .loop .rows) (c .before .before .before .before .loop .number) (c .before .before .before .before .loop .at) (c .before .before .before .before .loop .inv .2) (c .before .before .before .before .loop .inv .0) _ _ (sym (c .before .before .before .row-at .ensures) ∙ c .before .enum-told2 .given .1) (λ k. refl)
 

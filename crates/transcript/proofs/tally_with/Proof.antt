@@ -1,32 +1,25 @@
-use Rattle.transcript.proofs.Turns.{counts}
+-- `transcript::tally_with` meets its contract: each arm counts for the case that the match found. Assumes nothing.
 use mathlib.Core.Path.{refl}
 use borrow.Author.Needs.{needs}
+use Rattle.transcript.proofs.Turns.{counts}
 use Rattle.transcript.proofs.tally_with.Statement.{statement}
 use Rattle.transcript.proofs.tally_with.Tie as tie
-use Rattle.transcript.proofs.tally_with.Reads as reads
-use Rattle.transcript.proofs.tally_with.Lts as lts
 
--- src/lib.rt:71:35
 enum-told : tie.Need-enum-told
 enum-told c = search needs
 
--- src/lib.rt:71:35
 add-next : tie.Need-add-next
 add-next c = search needs
 
--- src/lib.rt:72:37
 enum-told-2 : tie.Need-enum-told-2
 enum-told-2 c = search needs
 
--- src/lib.rt:72:37
 add-next-2 : tie.Need-add-next-2
 add-next-2 c = search needs
 
--- src/lib.rt:73:34
 enum-told-3 : tie.Need-enum-told-3
 enum-told-3 c = search needs
 
--- src/lib.rt:73:34
 add-next-3 : tie.Need-add-next-3
 add-next-3 c = search needs
 
@@ -45,35 +38,27 @@ enum-told-7 c = search needs
 enum-told-8 : tie.Need-enum-told-8
 enum-told-8 c = search needs
 
--- src/lib.rt:65:1
 returns : tie.Need-returns
 returns c = counts _ _ (c .before .before .before .args .tally) _ (c .before .enum-told .given .1) refl
 
--- src/lib.rt:65:1
 returns-2 : tie.Need-returns-2
 returns-2 c = counts _ _ (c .before .before .before .args .tally) _ (c .before .enum-told2 .given .1) refl
 
--- src/lib.rt:65:1
 returns-3 : tie.Need-returns-3
 returns-3 c = counts _ _ (c .before .before .before .args .tally) _ (c .before .enum-told3 .given .1) refl
 
--- src/lib.rt:65:1
 returns-4 : tie.Need-returns-4
 returns-4 c = search needs
 
--- src/lib.rt:65:1
 returns-5 : tie.Need-returns-5
 returns-5 c = search needs
 
--- src/lib.rt:65:1
 returns-6 : tie.Need-returns-6
 returns-6 c = search needs
 
--- src/lib.rt:65:1
 returns-7 : tie.Need-returns-7
 returns-7 c = search needs
 
--- src/lib.rt:65:1
 returns-8 : tie.Need-returns-8
 returns-8 c = search needs
 

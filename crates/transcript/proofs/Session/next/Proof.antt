@@ -1,84 +1,61 @@
+-- `transcript::Session::next` meets its contract: each arm hands out the first line that is left, or says that there is none. Assumes nothing.
 use mathlib.Core.Path.{refl}
-use Rattle.transcript.proofs.Turns.{on-settled, on-finished}
 use borrow.Author.Needs.{needs}
+use Rattle.transcript.proofs.Turns.{on-settled, on-finished}
 use Rattle.transcript.proofs.Session.next.Statement.{statement}
 use Rattle.transcript.proofs.Session.next.Tie as tie
-use Rattle.transcript.proofs.Session.next.Reads as reads
-use Rattle.transcript.proofs.Session.next.Lts as lts
-use Rattle.transcript.proofs.on_broken.Reads as on-broken-reads
-use Rattle.transcript.proofs.on_long.Reads as on-long-reads
-use Rattle.transcript.proofs.on_table.Reads as on-table-reads
-use Rattle.transcript.proofs.step_on.Reads as step-on-reads
 
--- src/lib.rt:253:52
 enum-told : tie.Need-enum-told
 enum-told c = search needs
 
--- src/lib.rt:253:31
 step-on-requires : tie.Need-step-on-requires
 step-on-requires c κs = search needs
 
--- src/lib.rt:254:47
 enum-told-2 : tie.Need-enum-told-2
 enum-told-2 c = search needs
 
--- src/lib.rt:254:33
 on-long-requires : tie.Need-on-long-requires
 on-long-requires c κs = search needs
 
--- src/lib.rt:255:30
 enum-known-pending : tie.Need-enum-known-pending
 enum-known-pending c = search needs
 
--- src/lib.rt:255:42
 on-table-requires : tie.Need-on-table-requires
 on-table-requires c κs = search needs
 
--- src/lib.rt:256:46
 enum-told-3 : tie.Need-enum-told-3
 enum-told-3 c = search needs
 
--- src/lib.rt:256:30
 on-broken-requires : tie.Need-on-broken-requires
 on-broken-requires c κs = search needs
 
--- src/lib.rt:257:34
 enum-told-4 : tie.Need-enum-told-4
 enum-told-4 c = search needs
 
--- src/lib.rt:247:5
 same-length : tie.Need-same-length
 same-length c = search needs
 
--- src/lib.rt:247:5
 returns : tie.Need-returns
 returns c = search needs
 
--- src/lib.rt:247:5
 same-length-2 : tie.Need-same-length-2
 same-length-2 c = search needs
 
--- src/lib.rt:247:5
 returns-2 : tie.Need-returns-2
 returns-2 c = on-settled (c .before .before .before .before .before .before .before .before .args .input .now) (c .before .before .before .before .before .before .before .before .args .self) (c .before .before .before .before .before .before .before .before .pre) _ _ _ _ _ (c .before .before .before .before .enum-told2 .given .1) refl refl (c .before .before .on-long .ensures)
 
--- src/lib.rt:247:5
 same-length-3 : tie.Need-same-length-3
 same-length-3 c = search needs
 
--- src/lib.rt:247:5
 returns-3 : tie.Need-returns-3
 returns-3 c = on-settled (c .before .before .before .before .before .before .before .before .before .args .input .now) (c .before .before .before .before .before .before .before .before .before .args .self) (c .before .before .before .before .before .before .before .before .before .pre) _ _ _ _ _ (c .before .before .before .before .before .pending .given .1) refl refl (c .before .before .on-table .ensures)
 
--- src/lib.rt:247:5
 same-length-4 : tie.Need-same-length-4
 same-length-4 c = search needs
 
--- src/lib.rt:247:5
 returns-4 : tie.Need-returns-4
 returns-4 c = on-settled (c .before .before .before .before .before .before .before .before .args .input .now) (c .before .before .before .before .before .before .before .before .args .self) (c .before .before .before .before .before .before .before .before .pre) _ _ _ _ _ (c .before .before .before .before .enum-told3 .given .1) refl refl (c .before .before .on-broken .ensures)
 
--- src/lib.rt:247:5
 returns-5 : tie.Need-returns-5
 returns-5 c = on-finished (c .before .before .before .before .args .input .now) (c .before .before .before .before .args .self) (c .before .before .before .before .pre) _ (c .enum-told4 .given .1)
 
