@@ -1,4 +1,6 @@
 pub mod Page
+pub mod Ends
+pub mod Totals
 pub mod Turns
 pub mod Rows
 pub mod Calls

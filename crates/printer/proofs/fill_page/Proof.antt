@@ -36,22 +36,38 @@ same-length : tie.Need-same-length Inv-loop μ-loop
 same-length c = search needs
 
 returns : tie.Need-returns Inv-loop μ-loop
-returns c = page-stop (c .before .before .before .before .before .before .before .before .before .before .args .input .now) (c .before .before .before .before .before .before .before .before .before .before .args .page .now) (c .before .before .before .before .before .before .before .before .before .before .args .session) (c .before .before .before .before .before .before .before .loop .page) (c .before .before .before .before .before .before .before .loop .next) (c .before .before .before .before .before .before .before .loop .used) (c .before .before .before .before .before .before .before .loop .inv) _ (c .before .before .before .before .next .result) (c .before .before .before .before .before .before .loop-test .taken) (c .before .before .before .before .next .ensures) (c .if1 .taken)
+returns c =
+    let start = c .before .before .before .before .before .before .before .before .before .before in
+    let at = c .before .before .before .before .before .before .before .loop in
+    page-stop (start .args .input .now) (start .args .page .now) (start .args .session) (at .page) (at .next) (at .used) (at .inv) _ (c .before .before .before .before .next .result) (c .before .before .before .before .before .before .loop-test .taken) (c .before .before .before .before .next .ensures) (c .if1 .taken)
 
 add-used : tie.Need-add-used Inv-loop μ-loop
-add-used c = let k = taken (c .before .before .before .before .before .before .before .before .before .before .before .args .input .now) (c .before .before .before .before .before .before .before .before .before .before .before .args .page .now) (c .before .before .before .before .before .before .before .before .before .before .before .args .session) (c .before .before .before .before .before .before .before .before .loop .page) (c .before .before .before .before .before .before .before .before .loop .next) (c .before .before .before .before .before .before .before .before .loop .used) (c .before .before .before .before .before .before .before .before .loop .inv) _ (c .before .before .before .before .before .next .result) (c .before .before .before .before .before .before .before .loop-test .taken) (c .before .before .before .before .before .next .ensures) (c .before .if1 .left) in omega (arith, k .size, k .short, c .before .before .before .before .before .before .before .before .loop .inv .inside, c .before .before .before .before .before .before .before .before .loop .inv .same)
+add-used c =
+    let start = c .before .before .before .before .before .before .before .before .before .before .before in
+    let at = c .before .before .before .before .before .before .before .before .loop in
+    let k = taken (start .args .input .now) (start .args .page .now) (start .args .session) (at .page) (at .next) (at .used) (at .inv) _ (c .before .before .before .before .before .next .result) (c .before .before .before .before .before .before .before .loop-test .taken) (c .before .before .before .before .before .next .ensures) (c .before .if1 .left) in
+    omega (arith, k .size, k .short, at .inv .inside, at .inv .same)
 
 loop-less : tie.Need-loop-less Inv-loop μ-loop
-loop-less c = let k = taken (c .before .before .before .before .before .before .before .before .before .before .before .args .input .now) (c .before .before .before .before .before .before .before .before .before .before .before .args .page .now) (c .before .before .before .before .before .before .before .before .before .before .before .args .session) (c .before .before .before .before .before .before .before .before .loop .page) (c .before .before .before .before .before .before .before .before .loop .next) (c .before .before .before .before .before .before .before .before .loop .used) (c .before .before .before .before .before .before .before .before .loop .inv) _ (c .before .before .before .before .before .next .result) (c .before .before .before .before .before .before .before .loop-test .taken) (c .before .before .before .before .before .next .ensures) (c .before .if1 .left) in omega (arith, ap length (k .first))
+loop-less c =
+    let start = c .before .before .before .before .before .before .before .before .before .before .before in
+    let at = c .before .before .before .before .before .before .before .before .loop in
+    let k = taken (start .args .input .now) (start .args .page .now) (start .args .session) (at .page) (at .next) (at .used) (at .inv) _ (c .before .before .before .before .before .next .result) (c .before .before .before .before .before .before .before .loop-test .taken) (c .before .before .before .before .before .next .ensures) (c .before .if1 .left) in
+    omega (arith, ap length (k .first))
 
 loop-again : tie.Need-loop-again Inv-loop μ-loop
-loop-again c = page-turn (c .before .before .before .before .before .before .before .before .before .before .before .args .input .now) (c .before .before .before .before .before .before .before .before .before .before .before .args .page .now) (c .before .before .before .before .before .before .before .before .before .before .before .args .session) (c .before .before .before .before .before .before .before .before .loop .page) (c .before .before .before .before .before .before .before .before .loop .next) (c .before .before .before .before .before .before .before .before .loop .used) (c .before .before .before .before .before .before .before .before .loop .inv) _ (c .before .before .before .before .before .next .result) (c .before .before .before .before .before .before .before .loop-test .taken) (c .before .before .before .before .before .next .ensures) (c .before .if1 .left)
+loop-again c =
+    let start = c .before .before .before .before .before .before .before .before .before .before .before in
+    let at = c .before .before .before .before .before .before .before .before .loop in
+    page-turn (start .args .input .now) (start .args .page .now) (start .args .session) (at .page) (at .next) (at .used) (at .inv) _ (c .before .before .before .before .before .next .result) (c .before .before .before .before .before .before .before .loop-test .taken) (c .before .before .before .before .before .next .ensures) (c .before .if1 .left)
 
 same-length-2 : tie.Need-same-length-2 Inv-loop μ-loop
 same-length-2 c = search needs
 
 returns-2 : tie.Need-returns-2 Inv-loop μ-loop
-returns-2 c = page-full (c .before .before .before .before .args .input .now) (c .before .before .before .before .args .page .now) (c .before .before .before .before .args .session) (c .before .loop .page) (c .before .loop .next) (c .before .loop .used) (c .before .loop .inv) (c .loop-test .left) (c .before .before .before .before .pre .1)
+returns-2 c =
+    let start = c .before .before .before .before in
+    page-full (start .args .input .now) (start .args .page .now) (start .args .session) (c .before .loop .page) (c .before .loop .next) (c .before .loop .used) (c .before .loop .inv) (c .loop-test .left) (start .pre .1)
 
 pub fill-page-spec : {M : Type 1} → statement M
 fill-page-spec =

@@ -26,7 +26,9 @@ same-length : tie.Need-same-length
 same-length c = search needs
 
 returns : tie.Need-returns
-returns c = stepped-reply (c .before .before .before .before .before .before .before .before .before .before .before .before .before .args .s) _ (c .before .before .before .before .before .before .before .before .before .before .before .before .before .args .end) _ _ (c .before .before .write-step .result) (c .before .before .before .before .before .before .before .route .result) _ (c .before .before .before .before .before .before .before .route .ensures) (c .before .before .write-step .ensures)
+returns c =
+    let start = c .before .before .before .before .before .before .before .before .before .before .before .before .before in
+    stepped-reply (start .args .s) _ (start .args .end) _ _ (c .before .before .write-step .result) (c .before .before .before .before .before .before .before .route .result) _ (c .before .before .before .before .before .before .before .route .ensures) (c .before .before .write-step .ensures)
 
 pub on-message-spec : {M : Type 1} → statement M
 on-message-spec =

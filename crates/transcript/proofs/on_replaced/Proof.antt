@@ -14,7 +14,9 @@ same-length : tie.Need-same-length
 same-length c = search needs
 
 returns : tie.Need-returns
-returns c = stepped-replaced (c .before .before .before .before .before .before .before .before .before .args .s) (c .before .before .before .before .before .before .before .before .before .args .address) (c .before .before .before .before .before .before .before .before .before .args .end) _ _ (c .before .before .write-step .result) (c .before .before .before .before .before .before .replaced .result) (c .before .before .before .before .before .before .replaced .ensures) (c .before .before .write-step .ensures)
+returns c =
+    let start = c .before .before .before .before .before .before .before .before .before in
+    stepped-replaced (start .args .s) (start .args .address) (start .args .end) _ _ (c .before .before .write-step .result) (c .before .before .before .before .before .before .replaced .result) (c .before .before .before .before .before .before .replaced .ensures) (c .before .before .write-step .ensures)
 
 pub on-replaced-spec : {M : Type 1} → statement M
 on-replaced-spec = tie.close (tie.spec replaced-requires write-step-requires same-length returns)

@@ -20,10 +20,14 @@ no-tally-requires : tie.Need-no-tally-requires
 no-tally-requires c κs = search needs
 
 returns : tie.Need-returns
-returns c = opens-refused (c .before .before .before .before .before .args .rows) (c .before .before .before .before .before .args .at) (c .before .before .before .before .before .args .number) (c .before .before .before .before .start-with .result) (c .before .before .before .before .start-with .ensures) _ _ (c .before .before .answer .given .1) (c .settled .ensures)
+returns c =
+    let start = c .before .before .before .before .before in
+    opens-refused (start .args .rows) (start .args .at) (start .args .number) (c .before .before .before .before .start-with .result) (c .before .before .before .before .start-with .ensures) _ _ (c .before .before .answer .given .1) (c .settled .ensures)
 
 returns-2 : tie.Need-returns-2
-returns-2 c = opens-accepted (c .before .before .before .before .before .args .rows) (c .before .before .before .before .before .args .at) (c .before .before .before .before .before .args .number) (c .before .before .before .before .start-with .result) (c .before .before .before .before .start-with .ensures) _ (c .before .before .enum-told .given .1) (c .before .no-tally .ensures)
+returns-2 c =
+    let start = c .before .before .before .before .before in
+    opens-accepted (start .args .rows) (start .args .at) (start .args .number) (c .before .before .before .before .start-with .result) (c .before .before .before .before .start-with .ensures) _ (c .before .before .enum-told .given .1) (c .before .no-tally .ensures)
 
 pub opened-spec : {M : Type 1} → statement M
 opened-spec =

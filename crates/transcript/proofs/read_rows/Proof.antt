@@ -38,7 +38,12 @@ loop-less : tie.Need-loop-less Inv-loop μ-loop
 loop-less c = let b = inside-row (c .before .before .before .before .before .before .before .before .args .input .now) (c .before .before .before .before .before .loop .at) _ (sym (c .before .before .before .before .row-at .ensures) ∙ c .before .before .address .given .1) in omega (arith, b .0, b .1)
 
 loop-again : tie.Need-loop-again Inv-loop μ-loop
-loop-again c = let e = sym (c .before .before .before .before .row-at .ensures) ∙ c .before .before .address .given .1 in let b = inside-row (c .before .before .before .before .before .before .before .before .args .input .now) (c .before .before .before .before .before .loop .at) _ e in (b .1, omega (arith, b .0, c .before .before .before .before .before .loop .inv .1), fuel-row (c .before .before .before .before .before .before .before .before .args .input .now) _ (c .before .before .before .before .before .loop .rows) (c .before .before .before .before .before .loop .number) (c .before .before .before .before .before .loop .at) (c .before .before .before .before .before .loop .inv .2) (c .before .before .before .before .before .loop .inv .0) _ _ _ _ e (c .with-row .ensures))
+loop-again c =
+    let start = c .before .before .before .before .before .before .before .before in
+    let at = c .before .before .before .before .before .loop in
+    let e = sym (c .before .before .before .before .row-at .ensures) ∙ c .before .before .address .given .1 in
+    let b = inside-row (start .args .input .now) (at .at) _ e in
+    (b .1, omega (arith, b .0, at .inv .1), fuel-row (start .args .input .now) _ (at .rows) (at .number) (at .at) (at .inv .2) (at .inv .0) _ _ _ _ e (c .with-row .ensures))
 
 enum-told : tie.Need-enum-told Inv-loop μ-loop
 enum-told c = search needs
@@ -47,7 +52,9 @@ settled-requires : tie.Need-settled-requires Inv-loop μ-loop
 settled-requires c κs = search needs
 
 returns : tie.Need-returns Inv-loop μ-loop
-returns c = c .settled .ensures ∙ fuel-end (c .before .before .before .before .before .before .before .args .input .now) _ (c .before .before .before .before .loop .rows) (c .before .before .before .before .loop .number) (c .before .before .before .before .loop .at) (c .before .before .before .before .loop .inv .2) (c .before .before .before .before .loop .inv .0) _ _ (sym (c .before .before .before .row-at .ensures) ∙ c .before .enum-told .given .1) (λ k. refl)
+returns c =
+    let at = c .before .before .before .before .loop in
+    c .settled .ensures ∙ fuel-end (c .before .before .before .before .before .before .before .args .input .now) _ (at .rows) (at .number) (at .at) (at .inv .2) (at .inv .0) _ _ (sym (c .before .before .before .row-at .ensures) ∙ c .before .enum-told .given .1) (λ k. refl)
 
 enum-told-2 : tie.Need-enum-told-2 Inv-loop μ-loop
 enum-told-2 c = search needs
@@ -56,7 +63,9 @@ opened-requires : tie.Need-opened-requires Inv-loop μ-loop
 opened-requires c κs = search needs
 
 returns-2 : tie.Need-returns-2 Inv-loop μ-loop
-returns-2 c = c .opened .ensures ∙ fuel-end (c .before .before .before .before .before .before .before .args .input .now) _ (c .before .before .before .before .loop .rows) (c .before .before .before .before .loop .number) (c .before .before .before .before .loop .at) (c .before .before .before .before .loop .inv .2) (c .before .before .before .before .loop .inv .0) _ _ (sym (c .before .before .before .row-at .ensures) ∙ c .before .enum-told2 .given .1) (λ k. refl)
+returns-2 c =
+    let at = c .before .before .before .before .loop in
+    c .opened .ensures ∙ fuel-end (c .before .before .before .before .before .before .before .args .input .now) _ (at .rows) (at .number) (at .at) (at .inv .2) (at .inv .0) _ _ (sym (c .before .before .before .row-at .ensures) ∙ c .before .enum-told2 .given .1) (λ k. refl)
 
 pub read-rows-spec : {M : Type 1} → statement M
 read-rows-spec =

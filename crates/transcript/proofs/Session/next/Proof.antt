@@ -42,19 +42,25 @@ same-length-2 : tie.Need-same-length-2
 same-length-2 c = search needs
 
 returns-2 : tie.Need-returns-2
-returns-2 c = on-settled (c .before .before .before .before .before .before .before .before .args .input .now) (c .before .before .before .before .before .before .before .before .args .self) (c .before .before .before .before .before .before .before .before .pre) _ _ _ _ _ (c .before .before .before .before .enum-told2 .given .1) refl refl (c .before .before .on-long .ensures)
+returns-2 c =
+    let start = c .before .before .before .before .before .before .before .before in
+    on-settled (start .args .input .now) (start .args .self) (start .pre) _ _ _ _ _ (c .before .before .before .before .enum-told2 .given .1) refl refl (c .before .before .on-long .ensures)
 
 same-length-3 : tie.Need-same-length-3
 same-length-3 c = search needs
 
 returns-3 : tie.Need-returns-3
-returns-3 c = on-settled (c .before .before .before .before .before .before .before .before .before .args .input .now) (c .before .before .before .before .before .before .before .before .before .args .self) (c .before .before .before .before .before .before .before .before .before .pre) _ _ _ _ _ (c .before .before .before .before .before .pending .given .1) refl refl (c .before .before .on-table .ensures)
+returns-3 c =
+    let start = c .before .before .before .before .before .before .before .before .before in
+    on-settled (start .args .input .now) (start .args .self) (start .pre) _ _ _ _ _ (c .before .before .before .before .before .pending .given .1) refl refl (c .before .before .on-table .ensures)
 
 same-length-4 : tie.Need-same-length-4
 same-length-4 c = search needs
 
 returns-4 : tie.Need-returns-4
-returns-4 c = on-settled (c .before .before .before .before .before .before .before .before .args .input .now) (c .before .before .before .before .before .before .before .before .args .self) (c .before .before .before .before .before .before .before .before .pre) _ _ _ _ _ (c .before .before .before .before .enum-told3 .given .1) refl refl (c .before .before .on-broken .ensures)
+returns-4 c =
+    let start = c .before .before .before .before .before .before .before .before in
+    on-settled (start .args .input .now) (start .args .self) (start .pre) _ _ _ _ _ (c .before .before .before .before .enum-told3 .given .1) refl refl (c .before .before .on-broken .ensures)
 
 returns-5 : tie.Need-returns-5
 returns-5 c = on-finished (c .before .before .before .before .args .input .now) (c .before .before .before .before .args .self) (c .before .before .before .before .pre) _ (c .enum-told4 .given .1)
