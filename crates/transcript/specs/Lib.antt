@@ -1,1 +1,3 @@
 pub mod Prescribed
+pub mod Totals
+pub mod Left

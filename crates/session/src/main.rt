@@ -1,0 +1,4 @@
+// Prints the lines of the session on standard input, or of each session file that is named.
+fn main() {
+    printer::show_inputs();
+}
