@@ -15,7 +15,7 @@ ghost use Rattle.fields.specs.Places.{readAt, rowAt, stepAt, rowPlaced, 
 ghost use Rattle.fields.specs.Fields.{rowOf, stepOf};
 
 // What stands at a place: nothing, a field that the end of the input cuts, or a whole field.
-enum Read {
+pub enum Read {
     End,
     Cut(u8),
     Field { tag: u8, start: usize, long: usize },
@@ -51,7 +51,8 @@ fn word_at(s: &[u8], i: usize) -> u16
     tapa::pair(high, low)
 }
 
-fn read_at(s: &[u8], at: usize) -> Read
+// What stands at a place.
+pub fn read_at(s: &[u8], at: usize) -> Read
     ensures { λ r. ⌜ r ≡ readAt (now (s .entry)) at ⌝ }
 {
     if s.len() <= at {

@@ -1,0 +1,20 @@
+-- `bench::Parts::on_row` meets its contract: a row more leaves rows that are held. Assumes nothing.
+use mathlib.Core.Path.{subst, sym}
+use Rattle.table.specs.declared.Rows.{Rows}
+use Rattle.table.specs.Table.{Held}
+use Rattle.table.proofs.Read.{with-held}
+use borrow.Author.Needs.{needs}
+use Rattle.bench.proofs.Parts.on_row.Statement.{statement}
+use Rattle.bench.proofs.Parts.on_row.Tie as tie
+
+with-row-requires : tie.Need-with-row-requires
+with-row-requires c κs = search needs
+
+with-rows-requires : tie.Need-with-rows-requires
+with-rows-requires c κs = (search needs, subst (λ (t : Rows). Held t) (sym (c .with-row .ensures)) (with-held _ _ (c .before .pre .rows)))
+
+returns : tie.Need-returns
+returns c = search needs
+
+pub on-row-spec : {M : Type 1} → statement M
+on-row-spec = tie.close (tie.spec with-row-requires with-rows-requires returns)
