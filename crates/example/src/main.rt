@@ -1,0 +1,57 @@
+// A kiosk in a few lines: a till driver asks its security module, which answers.
+//
+// docs/LIBRARY.md walks through it. Each line printed is what is to be sent on.
+use libc::STDOUT_FILENO;
+use router::Router;
+use rules::Outcome;
+use table::Row;
+use table::Rows;
+ghost use Rattle.table.specs.Table.{Held};
+ghost use Rattle.router.specs.Router.{Lawful};
+
+// The till driver '0100' and the security module '0001', both open.
+fn rows() -> Rows
+    ensures { λ r. ⌜ Held r ⌝ }
+{
+    let till = Row {
+        address: 0x0100,
+        opened: true,
+    };
+    let module = Row {
+        address: 0x0001,
+        opened: true,
+    };
+    table::with_row(table::with_row(table::no_rows(), till), module)
+}
+
+// Sends a part on: here, as a line of hexadecimal digits.
+fn send(part: &[u8]) {
+    let mut line = [0u8; 64];
+    let at = text::put_all_hex(&mut line, 0, part);
+    let end = text::put(&mut line, at, b'\n');
+    if end <= 64 {
+        io::write_all(STDOUT_FILENO, &line[..end]);
+    }
+}
+
+// Routes one message, sends what is to be sent, and hands the next state back.
+fn carry(router: Router, message: &[u8]) -> Router
+    requires { ⌜ Lawful router ⌝ }
+    ensures { λ r. ⌜ Lawful r ⌝ }
+{
+    let mut reply = [0u8; 10];
+    let routed = router.route(message, &mut reply);
+    let outcome = routed.outcome;
+    send(router::part_to_send(outcome, message, &reply));
+    routed.next
+}
+
+fn main() {
+    let started = router::start_with(rows());
+    let kiosk = started.router;
+    // Thread 3: an ICC command with one data byte, and its response with the code '0000'.
+    let asked = carry(kiosk, b"\x00\x01\x01\x00\x42\x03\x00\x01\xAA");
+    let answered = carry(asked, b"\x01\x00\x00\x01\xFF\x03\x00\x02\x00\x00");
+    // The same response again belongs to no question: it is refused, and nothing goes on.
+    carry(answered, b"\x01\x00\x00\x01\xFF\x03\x00\x02\x00\x00");
+}
