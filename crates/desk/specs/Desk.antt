@@ -6,7 +6,7 @@ use mathlib.Core.List.{List, [], _∷_}
 use lib.ListN.{length, take, drop, getD}
 use Rattle.lists.specs.Lists.{onto, count}
 use Rattle.tapa.specs.Address.{handlerOf}
-use Rattle.tapa.specs.Codes.{queueEmpty, getEvent, eventHandler}
+use Rattle.tapa.specs.Codes.{noEvents, getEvent, eventHandler}
 use Rattle.tapa.specs.Numbers.{wordAt}
 use Rattle.tapa.specs.Said.{refused, says, read, accepted, turned, reply}
 use Rattle.message.specs.declared.Head.{Head}
@@ -58,7 +58,7 @@ pub record Desk : Type 0 where
       → commandsOf part thread ≡ commandOf thread 0x01 (take 248 part) ∷ commandOf thread 0x00 (drop 248 part) ∷ []
   -- 'C9 Get on an empty queue: 'FF72'.'
   pub c9 : (s buffer : List ℕ) → IsGet s → 13 ≤ length buffer
-      → handled [] s buffer .reply ≡ onto (responseOf (wordAt s 2) (wordAt s 0) (getD s 5 0) queueEmpty) buffer
+      → handled [] s buffer .reply ≡ onto (responseOf (wordAt s 2) (wordAt s 0) (getD s 5 0) noEvents) buffer
   -- 'C11 thread 8: 5.'
   pub c11 : (v : View) (room : ℕ) (s : List ℕ) (h : Head) → 10 ≤ room → readOf s ≡ Message h → listed (handlerOf (h .source)) (v .rows) ≡ true → h .thread ≡ 8
       → saidOutcome (judge v room (message s)) ≡ refused 5

@@ -10,7 +10,7 @@ use lib.ListN.{length, getD}
 use borrow.Author.Tests.{lt-ltb, le-ltb, ltb-true, eq-eqb, eqb-true}
 use Rattle.lists.specs.Lists.{first, without, find}
 use Rattle.lists.specs.declared.Found.the-variants.{At, Nothing}
-use Rattle.tapa.specs.Codes.{unsupportedOperation, queueEmpty, noMatch}
+use Rattle.tapa.specs.Codes.{unsupportedOperation, noEvents, noMatchingEvents}
 use Rattle.events.specs.declared.Event.{Event}
 use Rattle.events.specs.declared.Queue.{Queue}
 use Rattle.events.specs.declared.Search.{Search}
@@ -49,7 +49,7 @@ module _ (l : List ℕ) (n : ℕ) where
   unfolding judge
   drops e h = rw (len l 0 n, le-ltb n most h)
 
-  pub gets-none : n ≡ 0 → judge (eventsFrom l 0 n) Get ≡ Coded queueEmpty
+  pub gets-none : n ≡ 0 → judge (eventsFrom l 0 n) Get ≡ Coded noEvents
   unfolding judge
   gets-none e = rw (no-events l 0 n e)
 
@@ -62,12 +62,12 @@ module _ (l : List ℕ) (n : ℕ) where
     unfolding judge
     finds-unknown k = rw k
 
-    pub finds-empty : knownSearch (s .by) ≡ true → n ≡ 0 → judge (eventsFrom l 0 n) (Find s) ≡ Coded queueEmpty
+    pub finds-empty : knownSearch (s .by) ≡ true → n ≡ 0 → judge (eventsFrom l 0 n) (Find s) ≡ Coded noEvents
     unfolding judge
     finds-empty k e = rw (k, no-events l 0 n e)
 
     pub finds-none : knownSearch (s .by) ≡ true → (n ≡ 0 → ⊥) → find (meets s) (eventsFrom l 0 n) ≡ Nothing
-        → judge (eventsFrom l 0 n) (Find s) ≡ Coded noMatch
+        → judge (eventsFrom l 0 n) (Find s) ≡ Coded noMatchingEvents
     unfolding judge
     finds-none k h f = rw (k, filled l 0 n h, none-first (meets s) (eventsFrom l 0 n) f)
 
@@ -90,13 +90,13 @@ allowed es (Add e) = go (ltb (length es) most) refl
 allowed es WrongAdd = tt
 allowed es Get = go (oldest es)
   where
-    go : (o : Option Event) → Allowed es (takenOr queueEmpty o)
+    go : (o : Option Event) → Allowed es (takenOr noEvents o)
     go none = tt
     go (some e) = tt
 allowed es (Find s) = go (knownSearch (s .by)) (isEmpty es) (first (meets s) es)
   where
     go : (a b : Bool) (o : Option Event)
-        → Allowed es (cond (not a) (Coded unsupportedOperation) (cond b (Coded queueEmpty) (takenOr noMatch o)))
+        → Allowed es (cond (not a) (Coded unsupportedOperation) (cond b (Coded noEvents) (takenOr noMatchingEvents o)))
     go false b o = tt
     go true true o = tt
     go true false none = tt

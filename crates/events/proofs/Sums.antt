@@ -7,7 +7,7 @@ use lib.ListN.{length, getD, length-drop}
 use borrow.Author.Tests.{le-ltb}
 use Rattle.lists.specs.Lists.{onto}
 use Rattle.tapa.specs.Address.{handlerOf}
-use Rattle.tapa.specs.Codes.{queueEmpty, getEvent, eventHandler}
+use Rattle.tapa.specs.Codes.{noEvents, getEvent, eventHandler}
 use Rattle.tapa.specs.Numbers.{wordAt}
 use Rattle.tapa.specs.Said.{says, reply as replies}
 use Rattle.message.specs.Message.{headOf, partOf, responseOf}
@@ -34,7 +34,7 @@ module _ (s : List ℕ) (short : length s ≡ 8) (none : wordAt s 6 ≡ 0) where
   -- 'C9 Get on an empty queue: 'FF72'.'
   pub c9 : (reply : List ℕ) → 13 ≤ length reply → handlerOf (wordAt s 0) ≡ eventHandler → getD s 4 0 ≡ getEvent
       → handled [] s reply
-      ≡ record { answer = Reply 10; events = []; reply = onto (responseOf (wordAt s 2) (wordAt s 0) (getD s 5 0) queueEmpty) reply }
+      ≡ record { answer = Reply 10; events = []; reply = onto (responseOf (wordAt s 2) (wordAt s 0) (getD s 5 0) noEvents) reply }
   unfolding handled judge apply responseOf
   c9 reply enough there get = rw (taken-in (length reply) enough there get, is-get get)
 

@@ -7,7 +7,7 @@ use lib.Dec.{eqb, ltb, leb}
 use lib.ListN.{length, getD}
 use Rattle.lists.specs.Lists.{checks, first, without, onto}
 use Rattle.tapa.specs.Address.{handlerOf}
-use Rattle.tapa.specs.Codes.{done, unsupportedOperation, queueEmpty, noMatch, response, addEvent, getEvent, findEvent, flushQueue, eventHandler}
+use Rattle.tapa.specs.Codes.{successful, unsupportedOperation, noEvents, noMatchingEvents, response, addEvent, getEvent, findEvent, flushQueue, eventHandler}
 use Rattle.tapa.specs.Numbers.{wordAt, twoBytes}
 use Rattle.tapa.specs.declared.Refusal.{Refusal}
 use Rattle.tapa.specs.declared.Refusal.the-variants.{BufferTooSmall, NotThisPartsMessage}
@@ -116,14 +116,14 @@ judge es (Add e) = cond (ltb (length es) most) (Added e) Ignored
 -- 'a wrong Add changes nothing and has no reply'
 judge es WrongAdd = Ignored
 -- 'Get takes the oldest, or 'FF72'.'
-judge es Get = takenOr queueEmpty (oldest es)
+judge es Get = takenOr noEvents (oldest es)
 -- 'Find takes the oldest that meets its search type: unknown type 'FFFB', empty 'FF72', no match 'FF73', in that order.'
 judge es (Find s) =
     checks
     ((not (knownSearch (s .by)), Coded unsupportedOperation)
-    ∷ (isEmpty es, Coded queueEmpty)
+    ∷ (isEmpty es, Coded noEvents)
     ∷ [])
-    (takenOr noMatch (first (meets s) es))
+    (takenOr noMatchingEvents (first (meets s) es))
 -- 'Flush answers '0000' and empties the queue, also where it was empty.'
 judge es Flush = Emptied
 -- 'gives 'FFFB''
@@ -143,8 +143,8 @@ apply (Coded code) es = es
 abbrev pub carried : Outcome → Option (List ℕ)
 carried (Added e) = none
 carried Ignored = none
-carried (Taken e) = some (e .kind ∷ (twoBytes (e .location) ++ twoBytes done))
-carried Emptied = some (twoBytes done)
+carried (Taken e) = some (e .kind ∷ (twoBytes (e .location) ++ twoBytes successful))
+carried Emptied = some (twoBytes successful)
 carried (Coded code) = some (twoBytes code)
 
 -- the answer is the reply's length

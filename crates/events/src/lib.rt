@@ -247,7 +247,7 @@ fn answered(reply: &mut [u8], head: Head, outcome: Outcome) -> Answer
         Outcome::Added(_) => Answer::Nothing,
         Outcome::Ignored => Answer::Nothing,
         Outcome::Taken(event) => reply_event(reply, head, event),
-        Outcome::Emptied => reply_code(reply, head, tapa::DONE),
+        Outcome::Emptied => reply_code(reply, head, tapa::SUCCESSFUL),
         Outcome::Coded(code) => reply_code(reply, head, code),
     }
 }
@@ -323,10 +323,10 @@ impl Queue {
         }
         let n = self.count;
         if n == 0 {
-            return Outcome::Coded(tapa::QUEUE_EMPTY);
+            return Outcome::Coded(tapa::NO_EVENTS);
         }
         match self.find(search) {
-            Found::Nothing => Outcome::Coded(tapa::NO_MATCH),
+            Found::Nothing => Outcome::Coded(tapa::NO_MATCHING_EVENTS),
             Found::At(newer) => {
                 let place = n - 1 - newer;
                 Outcome::Taken(unpack(self.places[place]))
@@ -351,7 +351,7 @@ impl Queue {
             Command::WrongAdd => Outcome::Ignored,
             Command::Get => {
                 if n == 0 {
-                    Outcome::Coded(tapa::QUEUE_EMPTY)
+                    Outcome::Coded(tapa::NO_EVENTS)
                 } else {
                     Outcome::Taken(unpack(self.places[0]))
                 }

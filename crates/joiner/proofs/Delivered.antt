@@ -10,7 +10,7 @@ use borrow.Author.Tests.{le-ltb, le-leb}
 use Rattle.lists.specs.Lists.{All, onto}
 use Rattle.lists.proofs.Onto.{onto-length}
 use Rattle.tapa.specs.Numbers.{twoBytes}
-use Rattle.tapa.specs.Codes.{response, done}
+use Rattle.tapa.specs.Codes.{response, successful}
 use Rattle.message.specs.Message.{headBytes, messageOf}
 use Rattle.joiner.specs.declared.Joiner.{Joiner}
 use Rattle.joiner.specs.declared.Taking.the-variants.{NotLast, Last}
@@ -178,13 +178,13 @@ module _ (j : Joiner) (first : List ℕ) (rest : List (List ℕ)) (b : List ℕ)
   -- a response, sent without its code and with its length counting it, arrives with the kept source as its destination and with the code '0000'
   pub response-delivered : (destination source thread : ℕ) (part : List ℕ) → thread ≤ 7 → length part + 2 ≤ 1024
       → getD (j .kept) thread false ≡ true → together first rest ≡ responseSent destination source thread part
-      → Delivers j first rest (messageOf (getD (j .sources) thread 0) source response thread (part ++ twoBytes done)) b
+      → Delivers j first rest (messageOf (getD (j .sources) thread 0) source response thread (part ++ twoBytes successful)) b
   unfolding messageOf completed
   response-delivered destination source thread part t few kept e =
       let m : List ℕ = responseSent destination source thread part in
       let to : ℕ = getD (j .sources) thread 0 in
-      let n : length (part ++ twoBytes done) ≡ length part + 2 = length-append part (twoBytes done) in
-      let bytes : completed to m ≡ messageOf to source response thread (part ++ twoBytes done) =
-      ap (λ (k : ℕ). headBytes to source response thread k ++ (part ++ twoBytes done)) (sym n) in
-      delivers (Response to) m (messageOf to source response thread (part ++ twoBytes done)) e (omega arith) (omega arith)
+      let n : length (part ++ twoBytes successful) ≡ length part + 2 = length-append part (twoBytes successful) in
+      let bytes : completed to m ≡ messageOf to source response thread (part ++ twoBytes successful) =
+      ap (λ (k : ℕ). headBytes to source response thread k ++ (part ++ twoBytes successful)) (sym n) in
+      delivers (Response to) m (messageOf to source response thread (part ++ twoBytes successful)) e (omega arith) (omega arith)
       (whole-response j m (omega arith) t (length part + 2) (omega arith) few refl (omega arith) kept) (ap Message (omega arith)) bytes

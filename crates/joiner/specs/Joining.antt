@@ -8,7 +8,7 @@ use lib.ListN.{length, take, drop, getD, set, replicate}
 use denote.Ref.{RefT, now}
 use Rattle.lists.specs.Lists.{checks, onto, LiesAt}
 use Rattle.tapa.specs.Numbers.{wordAt, twoBytes}
-use Rattle.tapa.specs.Codes.{response, iccCommand, done}
+use Rattle.tapa.specs.Codes.{response, iccCommand, successful}
 use Rattle.tapa.specs.declared.Refusal.the-variants.{TooShort, TooLong, SizeDisagrees, ThreadAbove7, BufferTooSmall, NotThisPartsMessage, NoSourceKept, StatusNotUsable}
 use Rattle.message.specs.Message.{readOf}
 use Rattle.message.specs.declared.Reading.{Reading}
@@ -93,7 +93,7 @@ wholeOf j m =
 
 -- 'For 'FF' the destination becomes the source kept from the thread's last '42' command .., and '0000' is appended.'
 unfoldable pub completed : ℕ → List ℕ → List ℕ
-completed source m = twoBytes source ++ (drop 2 m ++ twoBytes done)
+completed source m = twoBytes source ++ (drop 2 m ++ twoBytes successful)
 
 abbrev pub wholeAnswer : Whole → List ℕ → Answer
 wholeAnswer (NotWhole r) m = Refused r

@@ -10,7 +10,7 @@ use Rattle.lists.specs.declared.Found.{Found}
 use Rattle.lists.specs.declared.Found.the-variants.{At, Nothing}
 use Rattle.lists.specs.Lists.{checks, someOf, find, first, withoutAt}
 use Rattle.tapa.specs.Address.{handlerOf}
-use Rattle.tapa.specs.Codes.{done, openHandler, closeHandler}
+use Rattle.tapa.specs.Codes.{successful, openHandler, closeHandler}
 use Rattle.tapa.specs.declared.Refusal.the-variants.{NoResponseCode, StrayResponse, WrongAsker}
 use Rattle.message.specs.declared.Head.{Head}
 use Rattle.message.specs.declared.Coded.{Coded}
@@ -108,27 +108,27 @@ late-rows v h = split (someOf (owesExactly (h .source) (h .thread)) (v .places))
 -- ---- a handler opened or closed
 
 module _ (a : List ℕ) (before : List Bool) (n : ℕ) (w : Place) (code : ℕ) where
-  pub reopens-not : Columns a before n → (code ≡ done → ⊥) → Reopening a before before n w code
+  pub reopens-not : Columns a before n → (code ≡ successful → ⊥) → Reopening a before before n w code
   unfolding reopened
-  reopens-not c x = record { rows = rw (ne-eqb code done x); columns = c }
+  reopens-not c x = record { rows = rw (ne-eqb code successful x); columns = c }
 
-  pub reopens-other : Columns a before n → code ≡ done → (w .kind ≡ openHandler → ⊥) → (w .kind ≡ closeHandler → ⊥) → Reopening a before before n w code
+  pub reopens-other : Columns a before n → code ≡ successful → (w .kind ≡ openHandler → ⊥) → (w .kind ≡ closeHandler → ⊥) → Reopening a before before n w code
   unfolding reopened
   reopens-other c e x y =
-      record { rows = rw (eq-eqb code done e, ne-eqb (w .kind) openHandler x, ne-eqb (w .kind) closeHandler y); columns = c }
+      record { rows = rw (eq-eqb code successful e, ne-eqb (w .kind) openHandler x, ne-eqb (w .kind) closeHandler y); columns = c }
 
-  module _ (after : List Bool) (h : ℕ) (e : code ≡ done) (k : h ≡ handlerOf (w .asked)) where
+  module _ (after : List Bool) (h : ℕ) (e : code ≡ successful) (k : h ≡ handlerOf (w .asked)) where
     pub reopens-open : w .kind ≡ openHandler → Opened a before after n h true → Reopening a before after n w code
     unfolding reopened
     reopens-open x o = record {
-      rows = rw (eq-eqb code done e, eq-eqb (w .kind) openHandler x) (rw k at (o .holds));
+      rows = rw (eq-eqb code successful e, eq-eqb (w .kind) openHandler x) (rw k at (o .holds));
       columns = o .law;
     }
 
     pub reopens-close : (w .kind ≡ openHandler → ⊥) → w .kind ≡ closeHandler → Opened a before after n h false → Reopening a before after n w code
     unfolding reopened
     reopens-close y x o = record {
-      rows = rw (eq-eqb code done e, ne-eqb (w .kind) openHandler y, eq-eqb (w .kind) closeHandler x) (rw k at (o .holds));
+      rows = rw (eq-eqb code successful e, ne-eqb (w .kind) openHandler y, eq-eqb (w .kind) closeHandler x) (rw k at (o .holds));
       columns = o .law;
     }
 

@@ -93,7 +93,7 @@ fn reopen(addresses: &[u16; 16], opens: &mut [bool; 16], count: usize, wait: Pla
     requires { ⌜ Columns (now addresses) (now opens) count ⌝ }
     ensures { λ _. ⌜ Reopening (now (addresses .entry)) (now (opens .entry)) (now (opens .exit)) count wait code ⌝ }
 {
-    if code != tapa::DONE {
+    if code != tapa::SUCCESSFUL {
         return;
     }
     if wait.kind == tapa::OPEN_HANDLER {

@@ -9,7 +9,7 @@ use lib.Dec.{eqb}
 use borrow.Author.Tests.{eqb-true, eq-eqb}
 use Rattle.lists.specs.Lists.{count, someOf, first, without, changed}
 use Rattle.tapa.specs.Address.{handlerOf, multi}
-use Rattle.tapa.specs.Codes.{done, openHandler, closeHandler}
+use Rattle.tapa.specs.Codes.{successful, openHandler, closeHandler}
 use Rattle.table.specs.declared.Row.{Row}
 use Rattle.table.specs.Table.{listed, openedAt, setOpened, Proper}
 use Rattle.places.specs.declared.Place.{Place}
@@ -110,10 +110,10 @@ reset-closes v h p i = marked-now h false (v .rows) p (i .in-table)
 -- ---- 'If it was Open Handler or Close Handler and the code is '0000', the handler becomes open or closed.'
 
 module _ (v : View) (asker asked t : ℕ) (i : Innermost v asker asked t) (p : Proper (v .rows)) (y : listed (handlerOf asked) (v .rows) ≡ true) where
-  pub answered-opens : i .it .kind ≡ openHandler → openedAt (handlerOf asked) (applied (Answered asked asker t done) v .rows) ≡ true
+  pub answered-opens : i .it .kind ≡ openHandler → openedAt (handlerOf asked) (applied (Answered asked asker t successful) v .rows) ≡ true
   unfolding reopened
   answered-opens k = rw (i .found, k, i .its-asked) (marked-now (handlerOf asked) true (v .rows) p y)
 
-  pub answered-closes : i .it .kind ≡ closeHandler → openedAt (handlerOf asked) (applied (Answered asked asker t done) v .rows) ≡ false
+  pub answered-closes : i .it .kind ≡ closeHandler → openedAt (handlerOf asked) (applied (Answered asked asker t successful) v .rows) ≡ false
   unfolding reopened
   answered-closes k = rw (i .found, k, i .its-asked) (marked-now (handlerOf asked) false (v .rows) p y)

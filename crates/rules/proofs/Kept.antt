@@ -9,7 +9,7 @@ use lib.Dec.{eqb}
 use borrow.Author.Tests.{eqb-true}
 use Rattle.lists.specs.Lists.{count, someOf, keep, first, without, changed, All}
 use Rattle.tapa.specs.Address.{categoryOf, handlerOf, multi}
-use Rattle.tapa.specs.Codes.{done, openHandler, closeHandler}
+use Rattle.tapa.specs.Codes.{successful, openHandler, closeHandler}
 use Rattle.table.specs.declared.Row.{Row}
 use Rattle.table.specs.Table.{listed, setOpened, Proper}
 use Rattle.places.specs.declared.Place.{Place}
@@ -35,8 +35,8 @@ reopened-by : (P : List Row → Type 0) (rows : List Row) → P rows → ((h : �
 unfolding reopened
 reopened-by P rows p f none k = p
 reopened-by P rows p f (some w) k =
-    split (eqb k done && eqb (w .kind) openHandler) (λ b. rw b (f (handlerOf (w .asked)) true))
-    (λ b. rw b (split (eqb k done && eqb (w .kind) closeHandler) (λ q. rw q (f (handlerOf (w .asked)) false)) (λ q. rw q p)))
+    split (eqb k successful && eqb (w .kind) openHandler) (λ b. rw b (f (handlerOf (w .asked)) true))
+    (λ b. rw b (split (eqb k successful && eqb (w .kind) closeHandler) (λ q. rw q (f (handlerOf (w .asked)) false)) (λ q. rw q p)))
 
 pub rows-by : (P : List Row → Type 0) (v : View) → P (v .rows) → ((h : ℕ) (b : Bool) → P (setOpened h b (v .rows))) → (o : Outcome) → P (rowsAfter o v)
 rows-by P v p f (Passed asker asked kind t) = p

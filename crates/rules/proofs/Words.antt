@@ -15,14 +15,14 @@ use Rattle.places.proofs.Parts.{some-parts}
 use Rattle.rules.specs.View.{View}
 use Rattle.rules.specs.Judge.{mayAsk, busy}
 use Rattle.rules.specs.Conduct.{Placed, grownIn, Grown, Chained, Conduct}
-use Rattle.rules.specs.Words.{chainOf, ruleD, asksOn, ruleE, Line, askedBy, Worded}
+use Rattle.rules.specs.Words.{chainOf, dLetsAsk, asksOn, eTurnsBack, Line, askedBy, Worded}
 use Rattle.rules.proofs.Lists.{split, and-yes, or-left, eqb-turn, count-le, count-none, none-le, some-ext, some-kept, keep-nothing, All-map}
 use Rattle.rules.proofs.Waits.{open-is, open-thread}
 use Rattle.rules.proofs.Trees.{askedOn, asked-on}
 
 -- ---- rule d
 
-pub d-worded : (places : List Place) (t a : ℕ) → mayAsk places t a ≡ ruleD (chainOf t places) a
+pub d-worded : (places : List Place) (t a : ℕ) → mayAsk places t a ≡ dLetsAsk (chainOf t places) a
 d-worded [] t a = refl
 d-worded (p ∷ places) t a = split (openOn t p) (λ b. rw b) (λ b. rw b (d-worded places t a))
 
@@ -35,7 +35,7 @@ none-asked places h t e =
     ∙ none-le (λ (p : Place). isOpen p && asksOn h t p) (standsOn t h)
     (λ p q. let x = and-yes (isOpen p) (asksOn h t p) q in let y = and-yes (asks h p) (onThread t p) (x .1) in rw (x .0, y .1, y .0, or-true)) places e
 
-pub e-worded : (places : List Place) (asker h t : ℕ) → busy places asker h t ≡ ruleE places asker h t
+pub e-worded : (places : List Place) (asker h t : ℕ) → busy places asker h t ≡ eTurnsBack places asker h t
 unfolding busy
 e-worded places asker h t =
     split (someOf (standsOn t h) places)
@@ -87,11 +87,11 @@ line-of r t (p ∷ l) c g =
     split (openOn t p)
     (λ b.
     let k : p .thread ≡ t = eqb-true (p .thread) t (open-thread t p b) in
-    let may : ruleD (chainOf t l) (p .asker) ≡ true = sym (d-worded l t (p .asker)) ∙ rw k at (c .0 (open-is t p b)) in
+    let may : dLetsAsk (chainOf t l) (p .asker) ≡ true = sym (d-worded l t (p .asker)) ∙ rw k at (c .0 (open-is t p b)) in
     rw b (go (chainOf t l) refl may (g .0 b .0) (line-of r t l (c .1) (g .1))))
     (λ b. rw b (line-of r t l (c .1) (g .1)))
   where
-    go : (m : List Place) → chainOf t l ≡ m → ruleD m (p .asker) ≡ true → grownIn r t (handlerOf (p .asker)) l ≡ true → Line r m → Line r (p ∷ m)
+    go : (m : List Place) → chainOf t l ≡ m → dLetsAsk m (p .asker) ≡ true → grownIn r t (handlerOf (p .asker)) l ≡ true → Line r m → Line r (p ∷ m)
     go [] e may i n = begins r t p l i e
     go (w ∷ m) e may i n = (sym (eqb-true (handlerOf (w .asked)) (handlerOf (p .asker)) may), n)
 

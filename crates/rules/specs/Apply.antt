@@ -7,7 +7,7 @@ use lib.Dec.{eqb}
 use lib.ListN.{take}
 use Rattle.lists.specs.Lists.{keep, first, without, changed, onto}
 use Rattle.tapa.specs.Address.{handlerOf}
-use Rattle.tapa.specs.Codes.{done, handlerError, openHandler, closeHandler}
+use Rattle.tapa.specs.Codes.{successful, handlerError, openHandler, closeHandler}
 use Rattle.message.specs.Message.{responseOf}
 use Rattle.table.specs.declared.Row.{Row}
 use Rattle.table.specs.Table.{setOpened}
@@ -26,9 +26,9 @@ place asker asked kind thread = record { asker = asker; asked = asked; kind = ki
 unfoldable pub reopened : Option Place → (code : ℕ) → List Row → List Row
 reopened none k rows = rows
 reopened (some w) k rows =
-    cond (eqb k done && eqb (w .kind) openHandler)
+    cond (eqb k successful && eqb (w .kind) openHandler)
     (setOpened (handlerOf (w .asked)) true rows)
-    (cond (eqb k done && eqb (w .kind) closeHandler) (setOpened (handlerOf (w .asked)) false rows) rows)
+    (cond (eqb k successful && eqb (w .kind) closeHandler) (setOpened (handlerOf (w .asked)) false rows) rows)
 
 abbrev pub rowsAfter : Outcome → View → List Row
 rowsAfter (Passed asker asked kind t) v = v .rows

@@ -18,17 +18,17 @@ abbrev pub chainOf : ℕ → List Place → List Place
 chainOf t places = keep (openOn t) places
 
 -- d: the asking handler is 'the one the innermost wait asks or, where the chain is empty,' of category 01
-abbrev pub ruleD : (chain : List Place) → (asker : ℕ) → Bool
-ruleD [] a = eqb (categoryOf a) 1
-ruleD (w ∷ older) a = eqb (handlerOf (w .asked)) (handlerOf a)
+abbrev pub dLetsAsk : (chain : List Place) → (asker : ℕ) → Bool
+dLetsAsk [] a = eqb (categoryOf a) 1
+dLetsAsk (w ∷ older) a = eqb (handlerOf (w .asked)) (handlerOf a)
 
 abbrev pub asksOn : ℕ → ℕ → Place → Bool
 asksOn h t p = asks h p && onThread t p
 
 -- e: 'asked handler is the asker, or stands in this thread's chain as asker or asked; or is single and asked or owing on any thread; or is
 -- multi and owing on this thread'
-abbrev pub ruleE : List Place → (asker h thread : ℕ) → Bool
-ruleE places asker h t =
+abbrev pub eTurnsBack : List Place → (asker h thread : ℕ) → Bool
+eTurnsBack places asker h t =
     eqb h (handlerOf asker)
     || (someOf (standsOn t h) places
     || (not (multi h) && (someOf (asks h) (waits places) || someOf (asks h) (owings places))

@@ -3,8 +3,8 @@ use Prim.Native.Nat.{ℕ}
 
 -- ---- codes
 
-abbrev pub done : ℕ
-done = 0x0000
+abbrev pub successful : ℕ
+successful = 0x0000
 
 -- rule a: 'Table 1's code for an unknown destination'
 abbrev pub invalidDestination : ℕ
@@ -31,12 +31,12 @@ abbrev pub unsupportedOperation : ℕ
 unsupportedOperation = 0xFFFB
 
 -- the event queue is empty
-abbrev pub queueEmpty : ℕ
-queueEmpty = 0xFF72
+abbrev pub noEvents : ℕ
+noEvents = 0xFF72
 
 -- no event of the queue meets the search
-abbrev pub noMatch : ℕ
-noMatch = 0xFF73
+abbrev pub noMatchingEvents : ℕ
+noMatchingEvents = 0xFF73
 
 -- ---- types
 

@@ -34,7 +34,7 @@ pub enum Refusal {
 }
 
 // Response codes, by TAPA's names.
-pub const DONE: u16 = 0x0000;
+pub const SUCCESSFUL: u16 = 0x0000;
 
 pub const INVALID_DESTINATION: u16 = 0xFFF1;
 
@@ -48,9 +48,9 @@ pub const MUST_BE_OPENED: u16 = 0xFFF7;
 
 pub const UNSUPPORTED_OPERATION: u16 = 0xFFFB;
 
-pub const QUEUE_EMPTY: u16 = 0xFF72;
+pub const NO_EVENTS: u16 = 0xFF72;
 
-pub const NO_MATCH: u16 = 0xFF73;
+pub const NO_MATCHING_EVENTS: u16 = 0xFF73;
 
 // Message types that a part of the router knows by name.
 pub const RESPONSE: u8 = 0xFF;
