@@ -19,7 +19,7 @@ ghost use mathlib.Core.Path.{_≡_};
 ghost use mathlib.Core.Bool.{false};
 ghost use Prim.Native.Nat.{suc, _+_, _-_, _<_, _≤_};
 ghost use lib.ListN.{length, take, drop};
-ghost use Rattle.table.specs.Table.{noRows, judgeRows};
+ghost use Rattle.table.specs.Table.{Held, noRows, judgeRows};
 ghost use Rattle.router.specs.Router.{viewOf, Lawful};
 ghost use Rattle.fields.specs.Fields.{message, give-up, replaced};
 ghost use Rattle.lines.specs.Lines.{brokenLine, tableLine, longLine, totalsLine};
@@ -293,6 +293,7 @@ fn settled(at: usize, number: usize, pending: Pending) -> Session
 
 // The rows are over: the table is checked.
 fn opened(rows: Rows, at: usize, number: usize) -> Session
+    requires { ⌜ Held rows ⌝ }
     ensures { λ r. ⌜ r ≡ openedBy (judgeRows rows) rows at number ⌝ }
 {
     let started = router::start_with(rows);

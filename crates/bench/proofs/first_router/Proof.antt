@@ -2,6 +2,7 @@
 use mathlib.Core.Path.{_≡_, subst, sym, ap, _∙_}
 use Rattle.table.specs.declared.Rows.{Rows}
 use Rattle.table.specs.Table.{withRow}
+use Rattle.table.proofs.Read.{none-held, with-held}
 use Rattle.router.specs.declared.Started.{Started}
 use Rattle.router.specs.Router.{Lawful}
 use Rattle.router.specs.Start.{startWith}
@@ -17,7 +18,7 @@ with-row-requires : tie.Need-with-row-requires
 with-row-requires c κs = search needs
 
 start-with-requires : tie.Need-start-with-requires
-start-with-requires c κs = search needs
+start-with-requires c κs = rw (c .with-row .ensures, c .before .no-rows .ensures) (with-held _ _ none-held)
 
 returns : tie.Need-returns
 returns c =

@@ -4,14 +4,15 @@ use mathlib.Core.Path.{refl, sym, _∙_}
 use native.Mathlib.Omega.{arith}
 use Prim.Native.Nat.{suc, _+_, _-_, _≤_}
 use lib.ListN.{length}
-use Rattle.table.specs.Table.{noRows}
+use Rattle.table.specs.Table.{noRows, Held}
+use Rattle.table.proofs.Read.{none-held, with-held}
 use Rattle.transcript.specs.Left.{rowsRun}
 use Rattle.transcript.proofs.Rows.{Fuelled, fuel-start, fuel-row, fuel-end, inside-row}
 use Rattle.transcript.proofs.read_rows.Statement.{statement}
 use Rattle.transcript.proofs.read_rows.Tie as tie
 
 abbrev Inv-loop : tie.InvT-loop
-Inv-loop input rows₀ at₀ number₀ rows at number = (at ≤ length input) × (number ≤ at + 1) × Fuelled input (rowsRun (suc (length input)) input noRows 1 0) rows number at
+Inv-loop input rows₀ at₀ number₀ rows at number = (at ≤ length input) × (number ≤ at + 1) × Fuelled input (rowsRun (suc (length input)) input noRows 1 0) rows number at × Held rows
 
 abbrev μ-loop : tie.MeasureT-loop
 μ-loop input rows₀ at₀ number₀ rows at number = length input - at
@@ -20,7 +21,7 @@ no-rows-requires : tie.Need-no-rows-requires Inv-loop μ-loop
 no-rows-requires c κs = search needs
 
 loop-holds : tie.Need-loop-holds Inv-loop μ-loop
-loop-holds c = (omega arith, omega arith, fuel-start _ _ (c .no-rows .ensures))
+loop-holds c = (omega arith, omega arith, fuel-start _ _ (c .no-rows .ensures), rw (c .no-rows .ensures) none-held)
 
 row-at-requires : tie.Need-row-at-requires Inv-loop μ-loop
 row-at-requires c κs = search needs
@@ -43,7 +44,7 @@ loop-again c =
     let at = c .before .before .before .before .before .loop in
     let e = sym (c .before .before .before .before .row-at .ensures) ∙ c .before .before .address .given .1 in
     let b = inside-row (start .args .input .now) (at .at) _ e in
-    (b .1, omega (arith, b .0, at .inv .1), fuel-row (start .args .input .now) _ (at .rows) (at .number) (at .at) (at .inv .2) (at .inv .0) _ _ _ _ e (c .with-row .ensures))
+    (b .1, omega (arith, b .0, at .inv .1), fuel-row (start .args .input .now) _ (at .rows) (at .number) (at .at) (at .inv .2) (at .inv .0) _ _ _ _ e (c .with-row .ensures), rw (c .with-row .ensures) (with-held (at .rows) _ (at .inv .3)))
 
 enum-told : tie.Need-enum-told Inv-loop μ-loop
 enum-told c = search needs
@@ -60,7 +61,7 @@ enum-told-2 : tie.Need-enum-told-2 Inv-loop μ-loop
 enum-told-2 c = search needs
 
 opened-requires : tie.Need-opened-requires Inv-loop μ-loop
-opened-requires c κs = search needs
+opened-requires c κs = c .before .before .before .loop .inv .3
 
 returns-2 : tie.Need-returns-2 Inv-loop μ-loop
 returns-2 c =
