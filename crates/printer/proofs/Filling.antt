@@ -11,7 +11,6 @@ use Rattle.transcript.specs.declared.Session.{Session}
 use Rattle.transcript.specs.declared.Turn.{Turn}
 use Rattle.transcript.specs.Left.{linesLeft, Sound, Gives}
 use Rattle.transcript.proofs.Short.{Took, took, stopped}
-use Rattle.printer.specs.declared.Page.{Page}
 use Rattle.printer.specs.Pages.{joined, textLeft, Paged}
 
 differ : true ≡ false → ⊥

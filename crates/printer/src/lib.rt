@@ -67,7 +67,13 @@ fn show_all(fd: i32) {
     show(&input[..n]);
 }
 
-// A file that cannot be opened is named on standard error.
+// A folder can be opened, but a read of it fails.
+fn can_read(fd: i32) -> bool {
+    let mut nothing = [0u8; 0];
+    0 <= libc::read(fd, &mut nothing)
+}
+
+// A file that cannot be opened or read is named on standard error.
 fn show_file(i: usize) {
     let mut path = io::buffer();
     let n = os::arg(i, &mut path);
@@ -78,6 +84,11 @@ fn show_file(i: usize) {
     let fd = os::open_read(&path[..n]);
     if fd < 0 {
         os::fail(&path[..n]);
+        return;
+    }
+    if !can_read(fd) {
+        os::fail(&path[..n]);
+        libc::close(fd);
         return;
     }
     show_all(fd);

@@ -1,6 +1,6 @@
 -- The calls of `next`, one after the other, hand out the lines that the input prescribes; and a longer input prescribes one line. Assumes nothing.
 use Prim.Native.Nat.{ℕ, zero, suc, _<_}
-use mathlib.Core.Path.{_≡_, refl, sym, ap, _∙_}
+use mathlib.Core.Path.{_≡_, refl, ap, _∙_}
 use mathlib.Core.List.{List, [], _∷_}
 use native.Mathlib.Numerals.{add-one}
 use lib.ListN.{length, drop}
@@ -14,7 +14,7 @@ use Rattle.lines.specs.Lines.{longLine}
 use Rattle.transcript.specs.declared.Pending.{Pending}
 use Rattle.transcript.specs.declared.Pending.the-variants as pending
 use Rattle.transcript.specs.Prescribed.{stepLines, prescribed}
-use Rattle.transcript.specs.Left.{Sight, sightOf, leftBy, leftOf, nextIn, nextBy, nextOf, startOf, afterCalls}
+use Rattle.transcript.specs.Left.{Sight, leftBy, leftOf, nextIn, nextBy, nextOf, startOf, afterCalls}
 use Rattle.transcript.proofs.Rows.{begun}
 
 next-in : (s : List ℕ) (v : Sight) (i : NextStep) → leftOf s (nextIn s v i) ≡ drop 1 (stepLines (v .view) (v .tally) (v .step) (stepsBy s (v .number) i))

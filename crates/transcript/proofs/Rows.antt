@@ -1,7 +1,7 @@
 -- The rows: the state before the first line leaves all that the input prescribes, and is lawful. Assumes nothing.
 use Prim.Native.Nat.{ℕ, zero, suc, _+_, _≤_, _<_}
 use mathlib.Core.Path.{_≡_, refl, sym, ap, subst, _∙_}
-use mathlib.Core.Bool.{Bool, true, false, cond}
+use mathlib.Core.Bool.{Bool, false}
 use mathlib.Core.List.{List, [], _∷_, _++_, reverse, reverse-append}
 use native.Mathlib.Omega.{arith}
 use lib.Dec.{ltb}
@@ -17,14 +17,13 @@ use Rattle.table.proofs.Judged.{accepted, judge-reverse}
 use Rattle.table.proofs.Read.{read-held, read-rows, read-next, judge-read}
 use Rattle.rules.specs.View.{fresh}
 use Rattle.rules.proofs.Lists.{split}
-use Rattle.router.specs.Router.{viewOf, Lawful}
 use Rattle.router.specs.declared.Router.{Router}
 use Rattle.router.specs.declared.Started.{Started}
 use Rattle.router.specs.Start.{freshOver, startWith}
 use Rattle.router.proofs.Starts.{rows-proper, fresh-lawful}
 use Rattle.fields.specs.declared.NextRow.{NextRow}
 use Rattle.fields.specs.declared.NextRow.the-variants.{Row, Torn, Over}
-use Rattle.fields.specs.Fields.{Steps, Script, scriptOf, fileOf}
+use Rattle.fields.specs.Fields.{Steps, Script}
 use Rattle.fields.specs.Places.{rowAt, stepsAt, scriptAt}
 use Rattle.fields.proofs.Left.{scriptBy, script-at, RowInside, row-inside}
 use Rattle.transcript.specs.declared.Tally.{Tally}
@@ -32,7 +31,7 @@ use Rattle.transcript.specs.declared.Pending.{Pending}
 use Rattle.transcript.specs.declared.Pending.the-variants as pending
 use Rattle.transcript.specs.declared.Session.{Session}
 use Rattle.transcript.specs.Prescribed.{noTally, stepLines, checkedLines, scriptLines, prescribed}
-use Rattle.transcript.specs.Left.{sightOf, leftOf, linesLeft, blank, settled, openedBy, rowsBy, rowsRun, startOf, Fit, Sound, Begun}
+use Rattle.transcript.specs.Left.{leftOf, linesLeft, blank, settled, openedBy, rowsBy, rowsRun, startOf, Fit, Sound, Begun}
 
 -- ---- the loop: fuel that is left is enough, and the rest of the run gives the state that the whole gives
 

@@ -19,7 +19,7 @@ use Rattle.fields.specs.declared.NextStep.the-variants.{Message, GiveUp, Replac
 use Rattle.fields.specs.Places.{stepAt}
 use Rattle.fields.specs.Fields.{Step, message, give-up, replaced}
 use Rattle.fields.proofs.Left.{between, stepsBy, steps-at}
-use Rattle.text.specs.Text.{Pen, pen, puts}
+use Rattle.text.specs.Text.{Pen, pen}
 use Rattle.text.proofs.Laws.{puts-fit}
 use Rattle.lines.specs.Lines.{stepLine}
 use Rattle.lines.proofs.Short.{step-short, broken-short, table-short, long-short, totals-short}
@@ -28,7 +28,7 @@ use Rattle.transcript.specs.declared.Pending.the-variants as pending
 use Rattle.transcript.specs.declared.Session.{Session}
 use Rattle.transcript.specs.declared.Turn.{Turn}
 use Rattle.transcript.specs.Prescribed.{replyOf, outcomeOf, totalsOf, stepLines}
-use Rattle.transcript.specs.Left.{sightOf, leftOf, linesLeft, Sound, Handed, handed, gave, Gives}
+use Rattle.transcript.specs.Left.{leftOf, linesLeft, Sound, Handed, handed, gave, Gives}
 use Rattle.transcript.proofs.Turns.{lawful}
 
 -- ten bytes of reply

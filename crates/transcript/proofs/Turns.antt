@@ -4,14 +4,13 @@ use mathlib.Core.Path.{_≡_, refl, sym, ap, subst, _∙_}
 use mathlib.Core.Bool.{Bool, true, false}
 use mathlib.Core.List.{List, [], _∷_}
 use native.Mathlib.Omega.{arith}
-use lib.ListN.{length, take, drop}
+use lib.ListN.{length}
 use Rattle.lists.specs.Lists.{count, someOf}
 use Rattle.tapa.specs.Address.{handlerOf}
 use Rattle.table.specs.Table.{listed}
 use Rattle.places.specs.Places.{isOpen, isOwed, standsIn}
 use Rattle.rules.specs.View.{View}
 use Rattle.rules.specs.Judge.{judgeReplaced}
-use Rattle.rules.specs.Apply.{applied, written}
 use Rattle.rules.specs.declared.Outcome.{Outcome}
 use Rattle.rules.specs.declared.Outcome.the-variants.{Passed, Answered, Swallowed, Event, Turned, Given, Reset, Refused}
 use Rattle.rules.proofs.Lists.{split}
@@ -19,7 +18,6 @@ use Rattle.router.specs.declared.Router.{Router}
 use Rattle.router.specs.declared.Routed.{Routed}
 use Rattle.router.specs.Router.{viewOf, Lawful, Routing, Replacing}
 use Rattle.fields.specs.declared.NextStep.{NextStep}
-use Rattle.fields.specs.declared.NextStep.the-variants.{Message, GiveUp, Replaced, Broken, End}
 use Rattle.fields.specs.Fields.{Step, replaced, Steps, then}
 use Rattle.fields.specs.Places.{stepAt, stepsAt}
 use Rattle.fields.proofs.Left.{stepsBy, steps-at, StepInside, step-inside}
@@ -31,7 +29,7 @@ use Rattle.transcript.specs.declared.Pending.the-variants as pending
 use Rattle.transcript.specs.declared.Session.{Session}
 use Rattle.transcript.specs.declared.Turn.{Turn}
 use Rattle.transcript.specs.Prescribed.{noReply, replyOf, outcomeOf, tallied, totalsOf, stepLines}
-use Rattle.transcript.specs.Left.{Sight, sightOf, leftBy, leftOf, linesLeft, blank, went, finished, nextIn, nextBy, nextOf, Fit, Sound, Few, Handed, handed, gave, Gives, wentBy, Wrote, Stepped, closed, Last}
+use Rattle.transcript.specs.Left.{Sight, sightOf, leftBy, leftOf, linesLeft, blank, went, finished, nextIn, nextBy, nextOf, Fit, Sound, Few, Handed, handed, gave, Gives, Wrote, Stepped, closed, Last}
 
 -- ---- a step
 
