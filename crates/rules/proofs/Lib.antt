@@ -9,3 +9,4 @@ pub mod Words
 pub mod Steps
 pub mod After
 pub mod Sums
+pub mod Untouched
