@@ -1,20 +1,18 @@
 -- Where a field lies in its input, what a last turn says, and the router to begin with.
 use Prim.Native.Nat.{ℕ, _+_, _≤_, _<_}
-use mathlib.Core.Path.{_≡_, refl, sym, ap, subst, _∙_}
-use mathlib.Core.Bool.{Bool, true, false, cond}
+use mathlib.Core.Path.{_≡_, refl}
+use mathlib.Core.Bool.{true, false}
 use mathlib.Core.List.{List}
 use native.Mathlib.Omega.{arith}
 use lib.Dec.{leb, ltb}
-use lib.ListN.{length, getD}
+use lib.ListN.{length}
 use borrow.Author.Tests.{ltb-false}
 use Rattle.tapa.specs.Numbers.{wordAt}
 use Rattle.tapa.specs.Address.{categoryOf, subAddressOf, multi}
 use Rattle.rules.proofs.Lists.{split, differ}
 use Rattle.fields.specs.Places.{readAt}
-use Rattle.fields.specs.declared.Read.{Read}
-use Rattle.fields.specs.declared.Read.the-variants.{End, Cut, Field}
+use Rattle.fields.specs.declared.Read.the-variants.{Field}
 use Rattle.table.specs.declared.Row.{Row}
-use Rattle.table.specs.declared.Checked.the-variants.{Accepted}
 use Rattle.table.specs.Table.{noRows, withRow, shaped, judgeTable, judgeRows}
 use Rattle.table.proofs.Read.{with-held, none-held}
 use Rattle.router.specs.Router as router

@@ -36,9 +36,9 @@ const LARGEST: usize = 2048;
 // No line is longer than this: the longest has a message of 1,032 bytes and a buffer of 2,048.
 const LINE: usize = 8192;
 
-// What the parts keep from field to field. The router is one that was started from the first on,
-// so that its law always holds; `started` says whether a field started it. The message that is
-// cut is told by its place in the input.
+// What the parts keep from field to field. There is a router before a field starts one, so that its
+// law always holds; `started` says whether a field did. The message that is cut is told by its
+// place in the input, and `cut` is the cutter's place in its data.
 struct Parts {
     queue: Queue,
     joiner: Joiner,

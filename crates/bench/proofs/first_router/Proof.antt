@@ -1,5 +1,5 @@
 -- `bench::first_router` meets its contract: the router over one row is lawful. Assumes nothing.
-use mathlib.Core.Path.{_≡_, subst, sym, ap, _∙_}
+use mathlib.Core.Path.{subst, sym, ap, _∙_}
 use Rattle.table.specs.declared.Rows.{Rows}
 use Rattle.table.specs.Table.{withRow}
 use Rattle.table.proofs.Read.{none-held, with-held}

@@ -1,6 +1,5 @@
 -- `bench::Bench::turn` meets its contract: a whole field lies in the input, and any other ends it. Assumes nothing.
-use mathlib.Core.Path.{_≡_, refl, sym, ap, _∙_}
-use mathlib.Core.Bool.{false}
+use mathlib.Core.Path.{refl, sym, _∙_}
 use native.Mathlib.Omega.{arith}
 use Rattle.bench.proofs.Laws.{Placed, placed, stopped}
 use borrow.Author.Needs.{needs}

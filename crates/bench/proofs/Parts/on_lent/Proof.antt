@@ -1,6 +1,5 @@
 -- `bench::Parts::on_lent` meets its contract: the lent part has as many bytes as the field asks. Assumes nothing.
 use mathlib.Core.Path.{sym}
-use native.Mathlib.Omega.{arith}
 use lib.Seq.{length-take-le}
 use borrow.Author.Needs.{needs}
 use Rattle.bench.proofs.Parts.on_lent.Statement.{statement}

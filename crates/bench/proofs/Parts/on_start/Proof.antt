@@ -1,5 +1,5 @@
 -- `bench::Parts::on_start` meets its contract: a router over an accepted table is lawful. Assumes nothing.
-use mathlib.Core.Path.{_≡_, subst, sym, ap, _∙_}
+use mathlib.Core.Path.{subst, sym, ap, _∙_}
 use Rattle.table.specs.declared.Rows.{Rows}
 use Rattle.table.specs.Table.{Held}
 use Rattle.table.proofs.Read.{none-held}
