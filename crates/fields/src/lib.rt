@@ -6,7 +6,7 @@
 // names the place after its field.
 //
 // A broken row is told apart from any other broken field, since it comes before the table is
-// checked. The file as a list, and that these answers unfold it, is in specs/ and proofs/Laws.antt.
+// checked. The file as a list, and that these answers unfold it, is in specs/ and proofs/Unfold.antt.
 ghost use mathlib.Core.Path.{_≡_};
 ghost use Prim.Native.Nat.{_+_, _<_, _≤_};
 ghost use lib.ListN.{length, take, drop};

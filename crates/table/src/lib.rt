@@ -2,10 +2,11 @@
 //
 // The caller lends the rows as a slice of structs. They are read in order and copied into two
 // columns by value, addresses and marks, which are cheap to lend and to carry in a state. The
-// table is then checked in three passes: every row's shape, repeats, the number of multi rows.
+// table is then checked: the row count, and in three passes every row's shape, repeats, and the
+// number of multi rows.
 //
 // `read_rows` and `set_up` are thin, since a slice of structs is proved by hand. All work is in
-// functions over the columns. Look-ups take the columns of a table that was accepted.
+// functions over the columns. Look-ups take the columns of any table of at most 16 rows.
 //
 // A row of an accepted table names its handler: its sub-address has no top bit.
 use tapa::Refusal;
