@@ -1,6 +1,7 @@
 -- An outcome says what its call said: its addresses, type and thread are those of the message's bytes, of the give up, of the replaced call.
 use Prim.Native.Nat.{ℕ}
-use mathlib.Core.Path.{_≡_, refl}
+use mathlib.Core.Path.{_≡_, refl, ap}
+use mathlib.Core.Logic.{inl, inr}
 use mathlib.Core.List.{List}
 use mathlib.Core.Option.{Option, none, some}
 use lib.Dec.{eqb, ltb}
@@ -8,6 +9,7 @@ use borrow.Author.Tests.{eqb-true}
 use Rattle.lists.specs.Lists.{someOf, first}
 use Rattle.tapa.specs.Address.{handlerOf}
 use Rattle.tapa.specs.Codes.{response, eventHandler}
+use Rattle.tapa.specs.declared.Refusal.{Refusal}
 use Rattle.tapa.specs.declared.Refusal.the-variants.{BufferTooSmall}
 use Rattle.message.specs.declared.Head.{Head}
 use Rattle.message.specs.declared.Reading.{Reading}
@@ -20,10 +22,10 @@ use Rattle.places.specs.declared.Place.{Place}
 use Rattle.places.specs.Places.{openOn, owesExactly, standsIn}
 use Rattle.rules.specs.View.{View}
 use Rattle.rules.specs.declared.Outcome.{Outcome}
-use Rattle.rules.specs.declared.Outcome.the-variants.{Passed, Answered, Swallowed, Event, Turned, Given, Reset, Refused}
+use Rattle.rules.specs.declared.Outcome.the-variants.{Passed, Answered, Given, Refused}
 use Rattle.rules.specs.Judge.{answerable, replyTests, late, reply, judgeResponse, isAddEvent, rules, judgeCommand, commonTests, judgeKind, judgeRead, judgeMessage}
 use Rattle.rules.specs.Judge.{yields, judgeGiveUp, judgeReplaced, Call, message, giveUp, replaced, judge}
-use Rattle.rules.specs.Says.{Spoken, OnlyRefused, ReadSays, GivesUp, Replaces, Says}
+use Rattle.rules.specs.Says.{Spoken, ReadSays, GivesUp, Replaces, Says}
 use Rattle.rules.proofs.Lists.{split, checks-are, first-yes}
 use Rattle.rules.proofs.Waits.{open-thread}
 
@@ -56,43 +58,38 @@ module _ (v : View) (h : Head) where
 
 read-says : (v : View) (r : Reading) (code : Coded) → ReadSays r code (judgeRead v r code)
 unfolding judgeRead
-read-says v (Unread r) code = tt
+read-says v (Unread r) code = refl
 read-says v (Message h) code = checks-are (Spoken h code) (commonTests (v .rows) h) (judgeKind v h code) (tt, (tt, tt)) (λ _. kind-says v h code)
 
-refused-says : (r : Reading) (code : Coded) → (o : Outcome) → OnlyRefused o → ReadSays r code o
-refused-says (Unread r) code o u = u
-refused-says (Message h) code (Passed asker asked kind t) u = absurd u
-refused-says (Message h) code (Answered asked asker t k) u = absurd u
-refused-says (Message h) code (Swallowed asked t) u = absurd u
-refused-says (Message h) code Event u = absurd u
-refused-says (Message h) code (Turned asker asked t k) u = absurd u
-refused-says (Message h) code (Given asker asked t) u = absurd u
-refused-says (Message h) code (Reset a) u = absurd u
-refused-says (Message h) code (Refused r) u = tt
+refused-says : (r : Reading) (code : Coded) (k : Refusal) → ReadSays r code (Refused k)
+refused-says (Unread r) code k = refl
+refused-says (Message h) code k = tt
 
 message-says : (v : View) (room : ℕ) (s : List ℕ) → Says (message s) (judgeMessage v room s)
 unfolding judgeMessage
 message-says v room s =
-    split (ltb room 10) (λ p. rw p (refused-says (readOf s) (codeOf (partOf s)) (Refused BufferTooSmall) tt)) (λ p. rw p (read-says v (readOf s) (codeOf (partOf s))))
+    split (ltb room 10) (λ p. rw p (refused-says (readOf s) (codeOf (partOf s)) BufferTooSmall)) (λ p. rw p (read-says v (readOf s) (codeOf (partOf s))))
 
 -- ---- Give up, Replaced
 
 yields-says : (v : View) (t : ℕ) (o : Option Place) → first (openOn t) (v .places) ≡ o → GivesUp t (yields o)
 unfolding yields
-yields-says v t none e = tt
-yields-says v t (some w) e = eqb-true (w .thread) t (open-thread t w (first-yes (openOn t) (v .places) w e))
+yields-says v t none e = inl refl
+yields-says v t (some w) e =
+    let k = eqb-true (w .thread) t (open-thread t w (first-yes (openOn t) (v .places) w e)) in
+    inr (w .asker, w .asked, ap (Given (w .asker) (w .asked)) k)
 
 give-up-says : (v : View) (room t : ℕ) → GivesUp t (judgeGiveUp v room t)
 unfolding judgeGiveUp
 give-up-says v room t =
-    split (ltb room 10) (λ p. rw p tt) (λ p. rw p (split (ltb 7 t) (λ q. rw q tt) (λ q. rw q (yields-says v t (first (openOn t) (v .places)) refl))))
+    split (ltb room 10) (λ p. rw p (inl refl)) (λ p. rw p (split (ltb 7 t) (λ q. rw q (inl refl)) (λ q. rw q (yields-says v t (first (openOn t) (v .places)) refl))))
 
 replaced-says : (v : View) (a : ℕ) → Replaces a (judgeReplaced v a)
 unfolding judgeReplaced
 replaced-says v a =
     split (listed (handlerOf a) (v .rows))
-    (λ p. rw p (split (someOf (standsIn (handlerOf a)) (v .places)) (λ q. rw q tt) (λ q. rw q)))
-    (λ p. rw p tt)
+    (λ p. rw p (split (someOf (standsIn (handlerOf a)) (v .places)) (λ q. rw q (inl refl)) (λ q. rw q (inr refl))))
+    (λ p. rw p (inl refl))
 
 -- ---- any call, in any view
 pub says : (v : View) (room : ℕ) (c : Call) → Says c (judge v room c)

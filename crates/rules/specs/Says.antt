@@ -1,6 +1,7 @@
 -- What an outcome says of its call: the addresses, the type and the thread that it carries are those of the call.
 use Prim.Native.Nat.{ℕ}
 use mathlib.Core.Path.{_≡_}
+use mathlib.Core.Logic.{_⊎_}
 use mathlib.Core.Bool.{true}
 use Rattle.tapa.specs.Address.{handlerOf}
 use Rattle.tapa.specs.Codes.{response}
@@ -12,6 +13,7 @@ use Rattle.message.specs.declared.Coded.the-variants.{Code}
 use Rattle.message.specs.Message.{readOf, partOf, codeOf}
 use Rattle.rules.specs.declared.Outcome.{Outcome}
 use Rattle.rules.specs.declared.Outcome.the-variants.{Passed, Answered, Swallowed, Event, Turned, Given, Reset, Refused}
+use Rattle.rules.specs.Said.{isRefused}
 use Rattle.rules.specs.Judge.{isAddEvent, Call, message, giveUp, replaced}
 
 -- what a message with this head and this code can come to
@@ -25,42 +27,18 @@ Spoken h code (Given asker asked t) = ⊥
 Spoken h code (Reset a) = ⊥
 Spoken h code (Refused r) = Unit {0}
 
--- what bytes that are no message can come to
-abbrev pub OnlyRefused : Outcome → Type 0
-OnlyRefused (Passed asker asked kind t) = ⊥
-OnlyRefused (Answered asked asker t k) = ⊥
-OnlyRefused (Swallowed asked t) = ⊥
-OnlyRefused Event = ⊥
-OnlyRefused (Turned asker asked t k) = ⊥
-OnlyRefused (Given asker asked t) = ⊥
-OnlyRefused (Reset a) = ⊥
-OnlyRefused (Refused r) = Unit {0}
-
+-- bytes that are no message come to a refusal
 abbrev pub ReadSays : Reading → Coded → Outcome → Type 0
 ReadSays (Message h) code o = Spoken h code o
-ReadSays (Unread r) code o = OnlyRefused o
+ReadSays (Unread r) code o = isRefused o ≡ true
 
--- what a give up of thread t can come to
+-- a give up of thread t is refused, or gives up a wait of that thread
 abbrev pub GivesUp : ℕ → Outcome → Type 0
-GivesUp t (Passed asker asked kind u) = ⊥
-GivesUp t (Answered asked asker u k) = ⊥
-GivesUp t (Swallowed asked u) = ⊥
-GivesUp t Event = ⊥
-GivesUp t (Turned asker asked u k) = ⊥
-GivesUp t (Given asker asked u) = u ≡ t
-GivesUp t (Reset a) = ⊥
-GivesUp t (Refused r) = Unit {0}
+GivesUp t o = (isRefused o ≡ true) ⊎ ((asker : ℕ) × (asked : ℕ) × (o ≡ Given asker asked t))
 
--- what a replaced call of the address a can come to
+-- a replaced call of the address a is refused, or resets its handler
 abbrev pub Replaces : ℕ → Outcome → Type 0
-Replaces a (Passed asker asked kind u) = ⊥
-Replaces a (Answered asked asker u k) = ⊥
-Replaces a (Swallowed asked u) = ⊥
-Replaces a Event = ⊥
-Replaces a (Turned asker asked u k) = ⊥
-Replaces a (Given asker asked u) = ⊥
-Replaces a (Reset h) = h ≡ handlerOf a
-Replaces a (Refused r) = Unit {0}
+Replaces a o = (isRefused o ≡ true) ⊎ (o ≡ Reset (handlerOf a))
 
 abbrev pub Says : Call → Outcome → Type 0
 Says (message s) o = ReadSays (readOf s) (codeOf (partOf s)) o
