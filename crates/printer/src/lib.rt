@@ -3,8 +3,6 @@
 // Lines are gathered in a page of 65,536 bytes, and each page is written whole. No contract can say
 // what was read or written; `fill_page` is the last word that is proved: the pages, one after the
 // other, are the lines that the input prescribes.
-use libc::STDIN_FILENO;
-use libc::STDOUT_FILENO;
 use transcript::Session;
 ghost use Prim.Native.Nat.{_≤_};
 ghost use lib.ListN.{length};
@@ -45,66 +43,44 @@ fn fill_page(session: Session, input: &[u8], page: &mut [u8]) -> Page
     }
 }
 
-// Prints the lines of one input.
-fn show(input: &[u8]) {
+// Prints the lines of one input; false where they cannot be written.
+fn show(program: &[u8], input: &[u8]) -> bool {
     let mut page = io::large_buffer();
     let mut session = transcript::begin(input);
     loop {
         let filled = fill_page(session, input, &mut page);
         let used = filled.used;
-        io::write_all(STDOUT_FILENO, &page[..used]);
+        if !inputs::write(program, &page[..used]) {
+            return false;
+        }
         if !filled.more {
-            return;
+            return true;
         }
         session = filled.next;
     }
 }
 
-// Reads one byte more than a session file may have, so that a longer one is seen.
-fn show_all(fd: i32) {
+// Reads one byte more than a session file may have, so that a longer one is seen. Of a file that
+// cannot be read nothing is printed; `inputs` has said why.
+fn show_input(program: &[u8], i: usize) -> bool {
     let mut input = [0u8; 65537];
-    let n = io::read_full(fd, &mut input);
-    show(&input[..n]);
-}
-
-// A folder can be opened, but a read of it fails.
-fn can_read(fd: i32) -> bool {
-    let mut nothing = [0u8; 0];
-    0 <= libc::read(fd, &mut nothing)
-}
-
-// A file that cannot be opened or read is named on standard error.
-fn show_file(i: usize) {
-    let mut path = io::buffer();
-    let n = os::arg(i, &mut path);
-    if os::errno() != 0 {
-        os::fail(b"path");
-        return;
+    let waits = b"waiting for a session file on standard input (Ctrl-D ends it)";
+    let got = inputs::read(program, waits, i, &mut input);
+    if !got.whole {
+        return true;
     }
-    let fd = os::open_read(&path[..n]);
-    if fd < 0 {
-        os::fail(&path[..n]);
-        return;
-    }
-    if !can_read(fd) {
-        os::fail(&path[..n]);
-        libc::close(fd);
-        return;
-    }
-    show_all(fd);
-    libc::close(fd);
+    let n = got.length;
+    show(program, &input[..n])
 }
 
 // Prints the lines of standard input or, where arguments name files, of each file in turn.
-pub fn show_inputs() {
+pub fn show_inputs(program: &[u8]) {
     let count = os::arg_count();
-    if count < 2 {
-        show_all(STDIN_FILENO);
-        return;
-    }
-    let mut i = 1;
-    while i < count {
-        show_file(i);
+    let mut i = inputs::first_name();
+    while show_input(program, i) {
         i += 1;
+        if count <= i {
+            return;
+        }
     }
 }

@@ -1,32 +1,32 @@
--- `printer::show_inputs` is safe and ends. Assumes nothing.
+-- `printer::show_inputs` is safe and ends. Before the test, the number is that of an argument, or 2 at most. Assumes nothing.
+use Prim.Native.Nat.{_+_, _-_, _≤_}
 use borrow.Author.Needs.{needs}
-use Prim.Native.Nat.{_≤_, _-_}
 use Rattle.printer.proofs.show_inputs.Statement.{statement}
 use Rattle.printer.proofs.show_inputs.Tie as tie
 
 abbrev Inv-loop : tie.InvT-loop
-Inv-loop count i₀ i = i ≤ count
+Inv-loop program count i₀ i = i ≤ 2 + (count - 3)
 
 abbrev μ-loop : tie.MeasureT-loop
-μ-loop count i₀ i = count - i
+μ-loop program count i₀ i = count - i
 
 arg-count-requires : tie.Need-arg-count-requires Inv-loop μ-loop
 arg-count-requires c κs = search needs
 
-show-all-requires : tie.Need-show-all-requires Inv-loop μ-loop
-show-all-requires c κs = search needs
-
-returns : tie.Need-returns Inv-loop μ-loop
-returns c = search needs
+first-name-requires : tie.Need-first-name-requires Inv-loop μ-loop
+first-name-requires c κs = search needs
 
 loop-holds : tie.Need-loop-holds Inv-loop μ-loop
 loop-holds c = search needs
 
-show-file-requires : tie.Need-show-file-requires Inv-loop μ-loop
-show-file-requires c κs = search needs
+show-input-requires : tie.Need-show-input-requires Inv-loop μ-loop
+show-input-requires c κs = search needs
 
 add-i : tie.Need-add-i Inv-loop μ-loop
 add-i c = search needs
+
+returns : tie.Need-returns Inv-loop μ-loop
+returns c = search needs
 
 loop-less : tie.Need-loop-less Inv-loop μ-loop
 loop-less c = search needs
@@ -44,11 +44,11 @@ show-inputs-spec =
     Inv-loop
     μ-loop
     arg-count-requires
-    show-all-requires
-    returns
+    first-name-requires
     loop-holds
-    show-file-requires
+    show-input-requires
     add-i
+    returns
     loop-less
     loop-again
     returns-2)

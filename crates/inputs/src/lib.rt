@@ -1,0 +1,187 @@
+// Inputs: what a program is handed to read, whole or not at all, and what it says where it cannot.
+//
+// A read that fails is not the end of a file: the end is a read that hands over nothing. Nothing
+// of an input that was not read to its end is of use; the program names it on standard error, with
+// the system's reason, and goes on with the next. A write that fails is said likewise, and ends
+// the program.
+//
+// A Rattle program has no exit status. Where its first argument is `--status`, whoever started it
+// has opened descriptor 3 for it to tell of failures: one byte each. Without that argument it
+// writes nothing there.
+//
+// No contract can say what is read or written, so those here speak of lengths only.
+use libc::STDERR_FILENO;
+use libc::STDIN_FILENO;
+use libc::STDOUT_FILENO;
+ghost use Prim.Native.Nat.{_≤_};
+ghost use Rattle.io.specs.Counts.{Counts};
+
+// Where failures are told.
+const STATUS_FILENO: i32 = 3;
+
+// How many bytes of the buffer are the input's, and whether it was read to its end. A full buffer
+// counts as an end: who must see a longer input lends one byte more.
+pub struct Got {
+    pub length: usize,
+    pub whole: bool,
+}
+
+// Whether the first argument is `--status`.
+fn is_asked() -> bool {
+    let mut word = io::buffer();
+    let n = os::arg(1, &mut word);
+    check::same(&word[..n], b"--status")
+}
+
+// The number of the first argument that names an input.
+pub fn first_name() -> usize
+    ensures { λ r. ⌜ r ≤ 2 ⌝ }
+{
+    if is_asked() { 2 } else { 1 }
+}
+
+// Tells of a failure.
+pub fn tell() {
+    if is_asked() {
+        io::write_all(STATUS_FILENO, b"1");
+    }
+}
+
+// Says one line on standard error, that begins with the program's name.
+pub fn say(program: &[u8], line: &[u8]) {
+    io::write_all(STDERR_FILENO, program);
+    io::write_all(STDERR_FILENO, b": ");
+    io::write_all(STDERR_FILENO, line);
+    io::write_all(STDERR_FILENO, b"\n");
+}
+
+// Says what failed, with the system's reason, and tells of it. The reason is still there: writes
+// that succeed leave it alone.
+fn fail(program: &[u8], what: &[u8]) {
+    io::write_all(STDERR_FILENO, program);
+    io::write_all(STDERR_FILENO, b": ");
+    os::fail(what);
+    tell();
+}
+
+// Reads once. No bytes are the end, or a failure.
+fn read_some(fd: i32, buf: &mut [u8]) -> Got
+    ensures { λ r. ⌜ Counts (r .length) (now (buf .exit)) ⌝ }
+{
+    let got = libc::read(fd, buf);
+    Got {
+        length: io::count(got, buf),
+        whole: 0 <= got,
+    }
+}
+
+// Reads until the end is seen, a read fails, or the buffer is full.
+fn read_whole(fd: i32, buf: &mut [u8]) -> Got
+    ensures { λ r. ⌜ Counts (r .length) (now (buf .exit)) ⌝ }
+{
+    let mut length = 0;
+    while length < buf.len() {
+        let more = read_some(fd, &mut buf[length..]);
+        if more.length == 0 {
+            return Got {
+                length,
+                whole: more.whole,
+            };
+        }
+        length += more.length;
+    }
+    Got {
+        length,
+        whole: true,
+    }
+}
+
+fn read_named(program: &[u8], name: &[u8], fd: i32, buf: &mut [u8]) -> Got
+    ensures { λ r. ⌜ Counts (r .length) (now (buf .exit)) ⌝ }
+{
+    let got = read_whole(fd, buf);
+    if !got.whole {
+        fail(program, name);
+    }
+    got
+}
+
+// Reads standard input. Who sits at a terminal is told what is waited for.
+fn read_standard(program: &[u8], waits: &[u8], buf: &mut [u8]) -> Got
+    ensures { λ r. ⌜ Counts (r .length) (now (buf .exit)) ⌝ }
+{
+    if libc::isatty(STDIN_FILENO) == 1 {
+        say(program, waits);
+    }
+    read_named(program, b"standard input", STDIN_FILENO, buf)
+}
+
+// Reads the input of that name: a file, or standard input where the name is `-`.
+fn read_input(program: &[u8], waits: &[u8], name: &[u8], buf: &mut [u8]) -> Got
+    ensures { λ r. ⌜ Counts (r .length) (now (buf .exit)) ⌝ }
+{
+    if check::same(name, b"-") {
+        return read_standard(program, waits, buf);
+    }
+    let fd = os::open_read(name);
+    if fd < 0 {
+        fail(program, name);
+        return Got {
+            length: 0,
+            whole: false,
+        };
+    }
+    let got = read_named(program, name, fd, buf);
+    libc::close(fd);
+    got
+}
+
+// Where there are several inputs and standard error is a terminal, an input's name goes before
+// what is printed of it.
+fn title(name: &[u8]) {
+    if os::arg_count() <= first_name() + 1 {
+        return;
+    }
+    if libc::isatty(STDERR_FILENO) == 1 {
+        io::write_all(STDERR_FILENO, name);
+        io::write_all(STDERR_FILENO, b":\n");
+    }
+}
+
+// Reads the input that argument i names, or standard input where there is no such argument. Where
+// that fails, it is said.
+pub fn read(program: &[u8], waits: &[u8], i: usize, buf: &mut [u8]) -> Got
+    ensures { λ r. ⌜ Counts (r .length) (now (buf .exit)) ⌝ }
+{
+    if os::arg_count() <= i {
+        return read_standard(program, waits, buf);
+    }
+    let mut name = io::buffer();
+    let n = os::arg(i, &mut name);
+    if os::errno() != 0 {
+        fail(program, b"a file's name");
+        return Got {
+            length: 0,
+            whole: false,
+        };
+    }
+    let got = read_input(program, waits, &name[..n], buf);
+    if got.whole {
+        title(&name[..n]);
+    }
+    got
+}
+
+// Writes all to standard output, or says why not. Where nobody reads any more there is nobody to
+// tell.
+pub fn write(program: &[u8], bytes: &[u8]) -> bool {
+    if io::write_all(STDOUT_FILENO, bytes) {
+        return true;
+    }
+    if os::errno() == libc::EPIPE {
+        tell();
+        return false;
+    }
+    fail(program, b"standard output");
+    false
+}
