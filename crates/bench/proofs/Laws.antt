@@ -9,7 +9,7 @@ use lib.ListN.{length}
 use borrow.Author.Tests.{ltb-false}
 use Rattle.tapa.specs.Numbers.{wordAt}
 use Rattle.tapa.specs.Address.{categoryOf, subAddressOf, multi}
-use Rattle.rules.proofs.Lists.{split, differ}
+use Rattle.lists.proofs.Tests.{split, differ}
 use Rattle.fields.specs.Places.{readAt}
 use Rattle.fields.specs.declared.Read.the-variants.{Field}
 use Rattle.table.specs.declared.Row.{Row}

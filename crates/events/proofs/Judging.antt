@@ -1,7 +1,7 @@
 -- Laws of what is decided: one for each way that a command can go, over the array that keeps the events.
 use Prim.Native.Nat.{ℕ, suc, _+_, _-_, _≤_, _<_}
-use mathlib.Core.Path.{_≡_, refl, sym, ap, _∙_, subst}
-use mathlib.Core.Bool.{Bool, true, false, not, _&&_, cond}
+use mathlib.Core.Path.{_≡_, refl, ap, _∙_, subst}
+use mathlib.Core.Bool.{Bool, true, false, not, cond}
 use mathlib.Core.List.{List, [], _∷_}
 use mathlib.Core.Option.{Option, none, some}
 use native.Mathlib.Omega.{arith}
@@ -10,6 +10,9 @@ use lib.ListN.{length, getD}
 use borrow.Author.Tests.{lt-ltb, le-ltb, ltb-true, eq-eqb, eqb-true}
 use Rattle.lists.specs.Lists.{first, without, find}
 use Rattle.lists.specs.declared.Found.the-variants.{At, Nothing}
+use Rattle.lists.proofs.Tests.{and-yes}
+use Rattle.lists.proofs.First.{first-yes}
+use Rattle.lists.proofs.Numbers.{find-none}
 use Rattle.tapa.specs.Codes.{unsupportedOperation, noEvents, noMatchingEvents}
 use Rattle.events.specs.declared.Event.{Event}
 use Rattle.events.specs.declared.Queue.{Queue}
@@ -20,7 +23,7 @@ use Rattle.events.specs.declared.Outcome.{Outcome}
 use Rattle.events.specs.declared.Outcome.the-variants.{Added, Ignored, Taken, Coded}
 use Rattle.events.specs.Events.{knownSearch, meets, likeOf, most, oldest, isEmpty, takenOr, judge, apply}
 use Rattle.events.specs.Places.{eventIn, eventsFrom, eventsOf, Allowed}
-use Rattle.events.proofs.Laws.{len, none-first, stands}
+use Rattle.events.proofs.Laws.{len, stands}
 
 -- ---- a queue's events, and how many there are
 
@@ -69,7 +72,7 @@ module _ (l : List ℕ) (n : ℕ) where
     pub finds-none : knownSearch (s .by) ≡ true → (n ≡ 0 → ⊥) → find (meets s) (eventsFrom l 0 n) ≡ Nothing
         → judge (eventsFrom l 0 n) (Find s) ≡ Coded noMatchingEvents
     unfolding judge
-    finds-none k h f = rw (k, filled l 0 n h, none-first (meets s) (eventsFrom l 0 n) f)
+    finds-none k h f = rw (k, filled l 0 n h, find-none (meets s) (eventsFrom l 0 n) f)
 
     pub finds : (k : ℕ) → knownSearch (s .by) ≡ true → (n ≡ 0 → ⊥) → find (meets s) (eventsFrom l 0 n) ≡ At k
         → judge (eventsFrom l 0 n) (Find s) ≡ Taken (eventIn (getD l (n - 1 - k) 0))
@@ -113,18 +116,13 @@ room q o e k h =
 -- ---- a taken event is the one that was found
 
 -- an event meets the search for its like, and only what is the same does
-both : (a b : Bool) → a && b ≡ true → (a ≡ true) × (b ≡ true)
-both true true e = (refl, refl)
-both true false e = (refl, e)
-both false b e = (e, absurd (let z : _≡_ {A = ℕ} 0 1 = cc in omega arith))
-
 same-event : (k m k′ m′ : ℕ) → k ≡ k′ → m ≡ m′ → _≡_ {A = Event} (record { kind = k; location = m }) (record { kind = k′; location = m′ })
 same-event k m k′ m′ e f = cc
 
 pub alike : (e x : Event) → meets (likeOf e) x ≡ true → x ≡ e
 unfolding meets
 alike e x t =
-    let p = both (eqb (x .kind) (e .kind)) (eqb (x .location) (e .location)) t in
+    let p = and-yes (eqb (x .kind) (e .kind)) (eqb (x .location) (e .location)) t in
     let k : x .kind ≡ e .kind = eqb-true (x .kind) (e .kind) (p .0) in
     let m : x .location ≡ e .location = eqb-true (x .location) (e .location) (p .1) in
     same-event (x .kind) (x .location) (e .kind) (e .location) k m
@@ -134,16 +132,6 @@ unfolding meets
 like-itself e = rw (eq-eqb (e .kind) (e .kind) refl, eq-eqb (e .location) (e .location) refl)
 
 module _ (q : Event → Bool) (e : Event) where
-  first-passes : (es : List Event) → first q es ≡ some e → q e ≡ true
-  first-passes [] f = absurd (let z : _≡_ {A = ℕ} 0 1 = cc in omega arith)
-  first-passes (x ∷ es) f = go (q x) refl (first-passes es) f
-    where
-      go : (b : Bool) → q x ≡ b → (first q es ≡ some e → q e ≡ true) → cond b (some x) (first q es) ≡ some e → q e ≡ true
-      go true t ih g =
-          let z : x ≡ e = cc in
-          ap q (sym z) ∙ t
-      go false t ih g = ih g
-
   -- taking the oldest of its like takes the oldest that met the search
   pub takes-found : (es : List Event) → first q es ≡ some e → without (meets (likeOf e)) es ≡ without q es
   takes-found [] f = refl
@@ -160,7 +148,7 @@ module _ (q : Event → Bool) (e : Event) where
           unlike : (b : Bool) → meets (likeOf e) x ≡ b → meets (likeOf e) x ≡ false
           unlike true u =
               absurd
-              (let y : q x ≡ true = ap q (alike e x u) ∙ first-passes es g in
+              (let y : q x ≡ true = ap q (alike e x u) ∙ first-yes q es e g in
               let z : _≡_ {A = ℕ} 0 1 = cc in
               omega arith)
           unlike false u = u

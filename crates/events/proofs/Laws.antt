@@ -3,7 +3,7 @@ use Prim.Native.Nat.{ℕ, zero, suc, _+_, _*_, _-_, _/_, _%_, _≤_, _<_}
 use mathlib.Core.Path.{_≡_, refl, sym, ap, _∙_}
 use mathlib.Core.Bool.{Bool, true, false, cond}
 use mathlib.Core.List.{List, [], _∷_, _++_, append-nil}
-use mathlib.Core.Option.{none, some}
+use mathlib.Core.Option.{some}
 use native.Mathlib.Numerals.{add-one}
 use native.Mathlib.Omega.{arith}
 use lib.Dec.{eqb}
@@ -11,7 +11,8 @@ use lib.ListN.{length, replicate, getD, set, length-set, length-replicate}
 use lib.Seq.{append-snoc, getD-set-same, getD-set-other}
 use borrow.Author.Tests.{eq-eqb, ne-eqb, eqb-true, eqb-false}
 use Rattle.lists.specs.Lists.{first, without, find, withoutAt}
-use Rattle.lists.specs.declared.Found.the-variants.{At, Nothing}
+use Rattle.lists.specs.declared.Found.the-variants.{At}
+use Rattle.lists.proofs.Cells.{same-all, set-small}
 use Rattle.events.specs.declared.Event.{Event}
 use Rattle.events.specs.declared.Queue.{Queue}
 use Rattle.events.specs.Events.{most}
@@ -49,20 +50,6 @@ stored-last l n v h =
     let e : 0 + n ≡ n = omega arith in
     last (set l n v) 0 n ∙ rw (e, getD-set-same l n v 0 h, stored-after l n v 0 n (omega arith))
 
--- ---- small numbers stay small
-
-set-small : (l : List ℕ) (i v b : ℕ) → v < b → ((j : ℕ) → getD l j 0 < b) → (j : ℕ) → getD (set l i v) j 0 < b
-set-small [] i v b g h j = h j
-set-small (x ∷ l) zero v b g h zero = g
-set-small (x ∷ l) zero v b g h (suc j) = h (suc j)
-set-small (x ∷ l) (suc i) v b g h zero = h 0
-set-small (x ∷ l) (suc i) v b g h (suc j) = set-small l i v b g (λ k. h (suc k)) j
-
-zeros : (m j : ℕ) → _≡_ {A = ℕ} (getD (replicate m 0) j 0) 0
-zeros zero j = refl
-zeros (suc m) zero = refl
-zeros (suc m) (suc j) = zeros m j
-
 -- ---- an event as a number
 
 pub packs : (e : Event) → e .kind < 256 → e .location < 65536 → Packs e (e .kind * 65536 + e .location)
@@ -79,8 +66,8 @@ holds-none = record {
   law = record {
     few = omega arith;
     long = length-replicate {A = ℕ} 100 0;
-    small = λ i. omega (arith, zeros 100 i);
-    free = λ i h. zeros 100 i;
+    small = λ i. omega (arith, same-all {A = ℕ} 100 i 0);
+    free = λ i h. same-all 100 i 0;
   };
 }
 
@@ -241,20 +228,3 @@ stands q l i (suc n) k e = go (q (eventIn (getD l i 0))) refl (stands q l (suc i
           it = rw t (s .it ∙ ap (λ (j : ℕ). some (eventIn (getD l j 0))) y);
           rest = rw (t, ne-eqb k (length (eventsFrom l (suc i) n)) (λ z. omega (arith, len l (suc i) n, s .inside)), s .rest);
         }
-
-module _ {A : Type 0} (q : A → Bool) where
-  pub none-first : (l : List A) → find q l ≡ Nothing → first q l ≡ none
-  none-first [] e = refl
-  none-first (x ∷ l) e = go (q x) (none-first l) e
-    where
-      go : (b : Bool) → (find q l ≡ Nothing → first q l ≡ none) → cond b (At (length l)) (find q l) ≡ Nothing → cond b (some x) (first q l) ≡ none
-      go true ih f = absurd (let z : _≡_ {A = ℕ} 0 1 = cc in omega arith)
-      go false ih f = ih f
-
-  pub none-without : (l : List A) → find q l ≡ Nothing → without q l ≡ l
-  none-without [] e = refl
-  none-without (x ∷ l) e = go (q x) (none-without l) e
-    where
-      go : (b : Bool) → (find q l ≡ Nothing → without q l ≡ l) → cond b (At (length l)) (find q l) ≡ Nothing → cond b l (x ∷ without q l) ≡ x ∷ l
-      go true ih f = absurd (let z : _≡_ {A = ℕ} 0 1 = cc in omega arith)
-      go false ih f = ap (λ (xs : List A). x ∷ xs) (ih f)

@@ -6,15 +6,13 @@ use mathlib.Core.List.{List, [], _∷_}
 use native.Mathlib.Omega.{arith}
 use lib.ListN.{length, length-map}
 use Rattle.lists.specs.Lists.{count}
+use Rattle.lists.proofs.Tests.{split}
 use Rattle.table.specs.declared.Row.{Row}
 use Rattle.table.specs.Table.{isAt, isMulti, marked, setOpened, Proper}
-use Rattle.places.specs.declared.Place.{Place}
 use Rattle.places.specs.Places.{waits, owings, owing}
 use Rattle.places.proofs.Two.{two}
-use Rattle.rules.specs.View.{View}
 use Rattle.rules.specs.Words.{singles, multis, mostOf}
 use Rattle.rules.specs.Judge.{judge}
-use Rattle.rules.proofs.Lists.{split}
 use Rattle.rules.proofs.Kept.{rows-by}
 use Rattle.rules.proofs.Bound.{bound, bound-all}
 use Rattle.history.specs.History.{Step, Sent, viewAfter, history, openIn, owedIn}

@@ -1,5 +1,5 @@
 -- Each answered, given or swallowed outcome ends exactly one command, and a reply goes to the one that asked.
-use Prim.Native.Nat.{ℕ, _+_, _≤_}
+use Prim.Native.Nat.{ℕ, _+_}
 use mathlib.Core.Path.{_≡_, refl, sym, ap, _∙_}
 use mathlib.Core.Logic.{inl, inr}
 use mathlib.Core.Bool.{Bool, true, false}
@@ -9,7 +9,11 @@ use native.Mathlib.Omega.{arith}
 use lib.Dec.{eqb}
 use lib.ListN.{length}
 use borrow.Author.Tests.{eqb-true}
-use Rattle.lists.specs.Lists.{one, count, first, In}
+use Rattle.lists.specs.Lists.{one, count, In}
+use Rattle.lists.proofs.Tests.{clash, and-yes}
+use Rattle.lists.proofs.Counts.{count-some, length-keep}
+use Rattle.lists.proofs.First.{first-yes, first-meets}
+use Rattle.lists.proofs.Members.{only, put, alone, in-kept, in-all}
 use Rattle.tapa.specs.Address.{handlerOf}
 use Rattle.table.specs.declared.Row.{Row}
 use Rattle.places.specs.declared.Place.{Place}
@@ -19,14 +23,12 @@ use Rattle.rules.specs.declared.Outcome.{Outcome}
 use Rattle.rules.specs.declared.Outcome.the-variants.{Passed, Answered, Swallowed, Event, Turned, Given, Reset, Refused}
 use Rattle.rules.specs.Judge.{judge}
 use Rattle.rules.specs.Conduct.{Conduct}
-use Rattle.rules.proofs.Lists.{split, clash, and-yes, count-some, first-yes, first-meets}
 use Rattle.places.proofs.Two.{asks-open, owes-owed}
 use Rattle.rules.proofs.Waits.{exact-on, open-thread}
 use Rattle.rules.proofs.Allowed.{Allowed, Innermost, allowed}
 use Rattle.rules.proofs.After.{exact-once}
 use Rattle.history.specs.History.{Step, Entry, viewAfter, history, Sent, sent, standing, meets, ends, ended, endsOne, Was, Concerns}
 use Rattle.history.proofs.Law.{conduct-after}
-use Rattle.history.proofs.Lists.{put, alone, length-keep, in-count, in-kept, in-all}
 use Rattle.history.proofs.Told.{sent-open, stood, told, open-as, owed-as}
 
 -- ---- commands that a test picks are as many as the places that it picks
@@ -64,17 +66,6 @@ module _ (h : List Entry) (v : View) (c : Conduct v) (k : stood h (sent h) ≡ v
   one-ended o a e = alone (ended h o) (ended-count o ∙ counted o a e)
 
 -- ---- whom an outcome concerns
-
--- a place that passes is the one that is found, where no two pass
-only : {A : Type 0} (q : A → Bool) (l : List A) (x y : A) → count q l ≤ 1 → first q l ≡ some x → In y l → q y ≡ true → y ≡ x
-only q [] x y c e i p = absurd i
-only q (z ∷ l) x y c e (inl k) p =
-    let pz : q z ≡ true = rw k p in
-    let m : z ≡ x = (let f : some z ≡ some x = rw pz at e in cc) in sym k ∙ m
-only q (z ∷ l) x y c e (inr i) p =
-    split (q z)
-    (λ b. let c′ : 1 + count q l ≤ 1 = rw b at c in absurd (omega (arith, in-count q y l p i)))
-    (λ b. only q l x y (omega arith) (rw b at e) i p)
 
 pub stood-in : (h : List Entry) (cs : List Sent) (d : Sent) (y : Place) → In d cs → standing h d ≡ some y → In y (stood h cs)
 stood-in h [] d y i e = absurd i

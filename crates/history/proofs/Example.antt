@@ -12,7 +12,7 @@ use Rattle.table.specs.declared.Row.{Row}
 use Rattle.rules.specs.declared.Outcome.the-variants.{Passed, Answered, Swallowed, Given, Reset}
 use Rattle.rules.specs.Judge.{Call, message, giveUp, replaced, late, reply, judgeResponse, busy, judgeCommand, judgeKind, judgeRead, judgeMessage, yields, judgeGiveUp, judgeReplaced}
 use Rattle.rules.specs.Apply.{place, reopened}
-use Rattle.rules.proofs.Lists.{clash}
+use Rattle.lists.proofs.Tests.{clash}
 use Rattle.rules.proofs.Sums.{rows, first-call, second-call, third-call, fourth-call}
 use Rattle.history.specs.History.{Step, Entry, history, openIn, owedIn, isPassed, isAnswered, isGiven, total}
 use Rattle.history.specs.Marks.{Honest, Bears}

@@ -10,14 +10,14 @@ use native.Mathlib.Omega.{arith}
 use lib.ListN.{length}
 use borrow.Author.Tests.{not-true, eq-eqb}
 use Rattle.lists.specs.Lists.{one, In}
+use Rattle.lists.proofs.Tests.{split, and-yes}
+use Rattle.lists.proofs.Members.{in-either, in-all}
 use Rattle.places.specs.declared.Place.{Place}
 use Rattle.places.specs.Places.{isOpen, isOwed, asksExactly, owesExactly, asks, owedBy}
 use Rattle.rules.specs.declared.Outcome.{Outcome}
 use Rattle.rules.specs.declared.Outcome.the-variants.{Passed, Answered, Swallowed, Event, Turned, Given, Reset, Refused}
-use Rattle.rules.proofs.Lists.{split, and-yes}
 use Rattle.places.proofs.Two.{asks-open, owes-owed}
 use Rattle.history.specs.History.{Entry, Sent, starts, sent, lives, livesOn, standing, meets, ends, isAnswered, isGiven, isSwallowed, isReset, timesEnded, Fate}
-use Rattle.history.proofs.Lists.{in-either, in-all}
 use Rattle.history.proofs.Told.{sent-before, older, unsent}
 
 -- ---- one outcome

@@ -1,4 +1,3 @@
-pub mod Lists
 pub mod Law
 pub mod Told
 pub mod Bound

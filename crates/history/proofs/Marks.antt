@@ -10,6 +10,10 @@ use lib.Dec.{eqb}
 use lib.ListN.{length}
 use borrow.Author.Tests.{eq-eqb, lt-ltb}
 use Rattle.lists.specs.Lists.{count, In}
+use Rattle.lists.proofs.Tests.{split, clash, and-yes}
+use Rattle.lists.proofs.Counts.{count-some}
+use Rattle.lists.proofs.First.{first-yes, first-meets}
+use Rattle.lists.proofs.Members.{in-either, in-keep, in-count, in-one, in-all}
 use Rattle.table.specs.declared.Row.{Row}
 use Rattle.places.specs.declared.Place.{Place}
 use Rattle.places.specs.Places.{isOwed, onThread, asksExactly, owesExactly, asks, owedBy, owing}
@@ -18,13 +22,11 @@ use Rattle.rules.specs.declared.Outcome.{Outcome}
 use Rattle.rules.specs.declared.Outcome.the-variants.{Passed, Answered, Swallowed, Event, Turned, Given, Reset, Refused}
 use Rattle.rules.specs.Judge.{judge}
 use Rattle.rules.specs.Conduct.{Conduct}
-use Rattle.rules.proofs.Lists.{split, clash, and-yes, count-some, first-yes, first-meets}
 use Rattle.rules.proofs.Allowed.{Allowed, allowed}
 use Rattle.rules.proofs.After.{exact-once}
 use Rattle.history.specs.History.{Step, Entry, viewAfter, history, Sent, starts, sent, lives, livesOn, standing, meets, ends, ended, endsOne}
 use Rattle.history.specs.Marks.{addressed, isReply, fits, replacedSince, used, Marked, Honest, Bears}
 use Rattle.history.proofs.Law.{conduct-after}
-use Rattle.history.proofs.Lists.{in-either, in-keep, in-count, in-one, in-all}
 use Rattle.history.proofs.Told.{sent-before, older, stood, told, stands-as}
 use Rattle.history.proofs.Ends.{one-ended, stood-in}
 

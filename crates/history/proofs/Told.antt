@@ -10,6 +10,10 @@ use lib.Dec.{eqb}
 use lib.ListN.{length}
 use borrow.Author.Tests.{ne-eqb}
 use Rattle.lists.specs.Lists.{keep, All}
+use Rattle.lists.proofs.Tests.{split, clash, differ, eqb-same}
+use Rattle.lists.proofs.Counts.{All-map}
+use Rattle.lists.proofs.First.{without-same}
+use Rattle.lists.proofs.Members.{put, collect, collect-all, collect-keep, collect-changed}
 use Rattle.table.specs.declared.Row.{Row}
 use Rattle.places.specs.declared.Place.{Place}
 use Rattle.places.specs.Places.{isOpen, isOwed, waits, owings, asksExactly, owesExactly, owedBy, owing}
@@ -19,11 +23,9 @@ use Rattle.rules.specs.declared.Outcome.the-variants.{Passed, Answered, Swallow
 use Rattle.rules.specs.Judge.{judge}
 use Rattle.rules.specs.Apply.{place, placesAfter}
 use Rattle.rules.specs.Conduct.{Conduct}
-use Rattle.rules.proofs.Lists.{split, clash, differ, eqb-same, without-same, All-map}
 use Rattle.rules.proofs.After.{exact-once}
 use Rattle.history.specs.History.{Step, Entry, viewAfter, history, Sent, starts, sent, lives, livesOn, standing, meets, openIn, owedIn, commands, debts}
 use Rattle.history.proofs.Law.{conduct-after}
-use Rattle.history.proofs.Lists.{put, collect, collect-all, collect-keep, collect-changed}
 
 -- ---- the numbers of the commands
 

@@ -5,6 +5,7 @@ use mathlib.Core.List.{List, [], _∷_, _++_}
 use native.Mathlib.Omega.{arith}
 use lib.ListN.{length}
 use Rattle.lists.specs.Lists.{one, without}
+use Rattle.lists.proofs.First.{length-first}
 use Rattle.table.specs.declared.Row.{Row}
 use Rattle.places.specs.Places.{waits, asksExactly}
 use Rattle.rules.specs.View.{View}
@@ -12,7 +13,6 @@ use Rattle.rules.specs.declared.Outcome.{Outcome}
 use Rattle.rules.specs.declared.Outcome.the-variants.{Passed, Answered, Swallowed, Event, Turned, Given, Reset, Refused}
 use Rattle.rules.specs.Judge.{judge}
 use Rattle.rules.specs.Apply.{placesAfter}
-use Rattle.rules.proofs.Lists.{length-first}
 use Rattle.places.proofs.Two.{waits-stay}
 use Rattle.rules.proofs.Waits.{waits-answered, waits-given, waits-swallowed, found-waits}
 use Rattle.rules.proofs.Allowed.{Allowed, Innermost, allowed}

@@ -11,7 +11,8 @@ use Rattle.rules.specs.Judge.{Call, judge}
 use Rattle.rules.specs.Apply.{applied}
 use Rattle.router.specs.declared.Router.{Router}
 use Rattle.router.specs.Router.{viewOf, Lawful}
-use Rattle.router.proofs.Starts.{rows-proper, start-view, start-lawful}
+use Rattle.table.proofs.Read.{rows-proper}
+use Rattle.router.proofs.Starts.{start-view, start-lawful}
 use Rattle.history.specs.History.{Entry}
 use Rattle.history.specs.Marks.{Honest}
 use Rattle.history.specs.Promise.{Ran, begun, going, EachBears, Promise, Bounded}

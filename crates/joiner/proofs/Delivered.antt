@@ -8,7 +8,7 @@ use lib.ListN.{length, take, drop, getD, replicate, length-append}
 use lib.Seq.{length-take-le, take-append-seam, take-at, getD-at, getD-append-add}
 use borrow.Author.Tests.{le-ltb, le-leb}
 use Rattle.lists.specs.Lists.{All, onto}
-use Rattle.lists.proofs.Onto.{onto-length}
+use Rattle.lists.proofs.Onto.{onto-length, onto-over}
 use Rattle.tapa.specs.Numbers.{twoBytes}
 use Rattle.tapa.specs.Codes.{response, successful}
 use Rattle.message.specs.Message.{headBytes, messageOf}
@@ -20,7 +20,7 @@ use Rattle.joiner.specs.declared.Answer.{Answer}
 use Rattle.joiner.specs.declared.Answer.the-variants.{More, Message}
 use Rattle.joiner.specs.Joining.{counting, dataOf, takingOf, joinedWith, wholeOf, completed, wholeAnswer, wholeBytes, answerOf, nextOf, bufferOf, partFor}
 use Rattle.joiner.specs.Sending.{together, sent, Small, responseSent, answersBy, joinerBy, bufferBy, Delivers}
-use Rattle.joiner.proofs.Laws.{takes-last, takes-more, onto-over, whole-longer, whole-plain, whole-response}
+use Rattle.joiner.proofs.Laws.{takes-last, takes-more, whole-longer, whole-plain, whole-response}
 
 -- ---- a piece is its data and its status
 module _ (d : List ℕ) (s₁ s₂ : ℕ) where

@@ -8,11 +8,11 @@ use native.Mathlib.Numerals.{add-one}
 use native.Mathlib.Omega.{arith}
 use lib.Dec.{eqb, ltb}
 use lib.ListN.{length, take, drop, getD, set, length-append, length-take, length-drop, take-append-drop}
-use lib.Seq.{length-take-le, sets-eq, drop-append-le, drop-append-add, drop-drop, take-at}
+use lib.Seq.{length-take-le, sets-eq, drop-append-le, take-at}
 use borrow.Author.Tests.{lt-ltb, le-ltb, le-leb, lt-leb, eq-eqb, ne-eqb, ltb-false, eqb-true}
 use borrow.Rule.Slice.PartMut.{putMid}
 use Rattle.lists.specs.Lists.{onto}
-use Rattle.lists.proofs.Onto.{onto-then, onto-stores}
+use Rattle.lists.proofs.Onto.{onto-then, onto-stores, own-start, onto-over, prefix}
 use Rattle.tapa.specs.Numbers.{wordAt, twoBytes}
 use Rattle.tapa.specs.declared.Refusal.{Refusal}
 use Rattle.tapa.specs.declared.Refusal.the-variants.{TooShort, TooLong, SizeDisagrees, ThreadAbove7, BufferTooSmall, NotThisPartsMessage, NoSourceKept, StatusNotUsable}
@@ -103,19 +103,6 @@ module _ (joined : ℕ) (p : List ℕ) where
 
 -- ---- written bytes
 
--- a buffer's own start, written again
-pub own-start : (k : ℕ) (b : List ℕ) → k ≤ length b → b ≡ onto (take k b) b
-own-start k b l = rw (length-take-le k b l) (sym (take-append-drop k b))
-
--- what is written over a shorter writing leaves nothing of it
-pub onto-over : (u s b : List ℕ) → length s ≤ length u → onto u (onto s b) ≡ onto u b
-onto-over u s b l =
-    let k : ℕ = length u - length s in
-    let e : length u ≡ length s + k = omega arith in
-    let past : drop (length u) (onto s b) ≡ drop (length u) b =
-    ap (λ (i : ℕ). drop i (onto s b)) e ∙ drop-append-add s (drop (length s) b) k ∙ drop-drop k (length s) b ∙ ap (λ (i : ℕ). drop i b) (sym e) in
-    ap (λ (y : List ℕ). u ++ y) past
-
 -- a piece's data, copied into the tail from the joined count
 pub added : (joined : ℕ) (p b d r : List ℕ) → joined + (length p - 2) ≤ length b → d ≡ dataOf p
     → r ≡ take (length d) d ++ drop (length d) (take (length b - joined) (drop joined b))
@@ -124,12 +111,6 @@ added joined p b d r l ed er =
     let n : length d ≤ length p - 2 = omega (arith, ap length ed, length-take (length p - 2) p, min-le-left (length p - 2) (length p)) in
     onto-then (take joined b) d b joined (length-take-le joined b (omega arith)) (omega arith) b r (own-start joined b (omega arith)) er
     ∙ ap (λ (y : List ℕ). onto (take joined b ++ y) b) ed
-
--- the part from the start is a prefix
-pub prefix : (k : ℕ) (b : List ℕ) → take (k - 0) (drop 0 b) ≡ take k b
-prefix k b =
-    let e : k - 0 ≡ k = omega arith in
-    ap (λ (i : ℕ). take i b) e
 
 -- destination and code by four stores
 module _ (m source : ℕ) (b : List ℕ) (two : 2 ≤ m) (room : m + 2 ≤ length b) where

@@ -1,2 +1,9 @@
+pub mod Tests
+pub mod Counts
+pub mod First
+pub mod Numbers
+pub mod Members
+pub mod Kept
+pub mod Cells
 pub mod Onto
 pub mod Parts

@@ -1,11 +1,11 @@
 -- Bytes written at the start of a buffer, and then on from where they ended.
 use Prim.Native.Nat.{ℕ, _+_, _-_, _≤_}
-use mathlib.Core.Path.{_≡_, refl, sym, ap, _∙_}
-use mathlib.Core.List.{List, [], _∷_, _++_, append-assoc, append-nil}
+use mathlib.Core.Path.{_≡_, sym, ap, _∙_}
+use mathlib.Core.List.{List, [], _++_, append-assoc, append-nil}
 use native.Mathlib.Nat.{le-of-eq}
 use native.Mathlib.Omega.{arith}
-use lib.ListN.{length, take, drop, length-append, length-drop, drop-of-length-le}
-use lib.Seq.{take-all, take-length, take-at, drop-at, drop-drop, sets, sets-eq}
+use lib.ListN.{length, take, drop, length-append, length-drop, take-append-drop, drop-of-length-le}
+use lib.Seq.{take-all, take-length, take-at, drop-at, length-take-le, drop-append-add, drop-drop, sets, sets-eq}
 use borrow.Rule.Slice.PartMut.{putMid}
 use Rattle.lists.specs.Lists.{onto}
 
@@ -43,3 +43,22 @@ onto-stores h vs buffer k e l x ex =
     sym (drop-drop (length vs) k x) ∙ ap (drop (length vs)) rest ∙ drop-drop (length vs) k buffer in
     let size : length (h ++ vs) ≡ k + length vs = length-append h vs ∙ ap (λ (j : ℕ). j + length vs) e in
     sets-eq vs x k (omega arith) ∙ rw (front, back, size, append-assoc)
+
+-- a buffer's own start, written again
+pub own-start : (k : ℕ) (b : List ℕ) → k ≤ length b → b ≡ onto (take k b) b
+own-start k b l = rw (length-take-le k b l) (sym (take-append-drop k b))
+
+-- what is written over a shorter writing leaves nothing of it
+pub onto-over : (u s b : List ℕ) → length s ≤ length u → onto u (onto s b) ≡ onto u b
+onto-over u s b l =
+    let k : ℕ = length u - length s in
+    let e : length u ≡ length s + k = omega arith in
+    let past : drop (length u) (onto s b) ≡ drop (length u) b =
+    ap (λ (i : ℕ). drop i (onto s b)) e ∙ drop-append-add s (drop (length s) b) k ∙ drop-drop k (length s) b ∙ ap (λ (i : ℕ). drop i b) (sym e) in
+    ap (λ (y : List ℕ). u ++ y) past
+
+-- the part from the start is a prefix
+pub prefix : (k : ℕ) (b : List ℕ) → take (k - 0) (drop 0 b) ≡ take k b
+prefix k b =
+    let e : k - 0 ≡ k = omega arith in
+    ap (λ (i : ℕ). take i b) e

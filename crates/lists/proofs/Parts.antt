@@ -1,6 +1,6 @@
 -- Parts of a lent slice.
-use Prim.Native.Nat.{ℕ, _+_}
-use mathlib.Core.Path.{_≡_, sym}
+use Prim.Native.Nat.{ℕ}
+use mathlib.Core.Path.{sym}
 use mathlib.Core.List.{List}
 use native.Mathlib.Nat.{zero-add}
 use denote.Ref.{RefT}

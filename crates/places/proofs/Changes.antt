@@ -2,7 +2,7 @@
 use Prim.Native.Nat.{ℕ, zero, suc, _+_, _≤_, _<_}
 use mathlib.Core.Path.{_≡_, refl, sym, ap, _∙_}
 use mathlib.Core.Bool.{Bool, true, false}
-use mathlib.Core.List.{List, [], _∷_}
+use mathlib.Core.List.{List}
 use native.Mathlib.Nat.{not-suc-le-zero}
 use native.Mathlib.Numerals.{add-one}
 use native.Mathlib.Omega.{arith}
@@ -11,11 +11,12 @@ use lib.ListN.{length, getD, set, length-set}
 use lib.Seq.{getD-set-same, getD-set-other, set-getD}
 use borrow.Author.Tests.{eq-eqb, ne-eqb, eqb-true, eqb-false, lt-ltb, le-ltb, ltb-true, ltb-false}
 use Rattle.lists.specs.Lists.{keep, withoutAt, changedAt}
+use Rattle.lists.proofs.Numbers.{end-past, change-past}
+use Rattle.lists.proofs.Cells.{set-small}
 use Rattle.places.specs.declared.Place.{Place}
 use Rattle.places.specs.Places.{unpack, placeAt, placesOf, Lawful, Becomes, Packed, pushed, owing}
 use Rattle.places.proofs.Numbers.{marked, marked-already}
-use Rattle.places.proofs.Points.{len, places-set, points, lawful, set-small}
-use Rattle.places.proofs.Walks.{end-past, change-past}
+use Rattle.places.proofs.Points.{len, places-set, points, lawful}
 
 -- ---- one place more
 

@@ -1,7 +1,6 @@
 pub mod Numbers
 pub mod Points
 pub mod Walks
-pub mod Parts
 pub mod Two
 pub mod Changes
 pub mod Once

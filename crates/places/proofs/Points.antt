@@ -1,5 +1,5 @@
 -- The places of an array, and the law of a list place by place.
-use Prim.Native.Nat.{ℕ, zero, suc, _+_, _-_, _≤_, _<_}
+use Prim.Native.Nat.{ℕ, zero, suc, _-_, _≤_, _<_}
 use mathlib.Core.Path.{_≡_, refl, sym, ap, _∙_}
 use mathlib.Core.Bool.{Bool, true, false}
 use mathlib.Core.List.{List, [], _∷_, map, map-append, reverse, reverse-append}
@@ -9,6 +9,7 @@ use lib.Dec.{eqb, ltb}
 use lib.ListN.{length, take, replicate, getD, set, length-set, length-replicate}
 use lib.Seq.{take-suc, getD-set-same, getD-set-other, ext-getD}
 use borrow.Author.Tests.{eqb-true, eqb-false, ltb-true, ltb-false}
+use Rattle.lists.proofs.Cells.{same-all}
 use Rattle.places.specs.declared.Place.{Place}
 use Rattle.places.specs.Places.{pack, unpack, placeAt, placesOf, packed, Lawful, Becomes}
 use Rattle.places.proofs.Numbers.{pack-unpack, pack-small}
@@ -50,13 +51,8 @@ packed-long : (ps : List Place) → length (packed ps) ≡ 48
 packed-long [] = length-replicate {A = ℕ} 48 0
 packed-long (p ∷ ps) = simp length-set (packed-long ps)
 
-zeros : (m j : ℕ) → _≡_ {A = ℕ} (getD (replicate m 0) j 0) 0
-zeros zero j = refl
-zeros (suc m) zero = refl
-zeros (suc m) (suc j) = zeros m j
-
 packed-out : (l : List ℕ) (n j : ℕ) → n ≤ j → getD (packed (placesOf l n)) j 0 ≡ 0
-packed-out l zero j h = zeros 48 j
+packed-out l zero j h = same-all 48 j 0
 packed-out l (suc n) j h =
     getD-set-other (packed (placesOf l n)) (length (placesOf l n)) j (pack (placeAt l n)) 0 (λ e. omega (arith, len l n))
     ∙ packed-out l n j (omega arith)
@@ -108,11 +104,3 @@ lawful l n h = record {
 -- 'A fresh router has no waits and owes nothing': 48 zeros of which none is in use
 pub fresh : Becomes (replicate 48 0) 0 []
 fresh = record { holds = refl; law = record { few = omega arith; whole = refl } }
-
--- a store of what is small keeps all small
-pub set-small : (l : List ℕ) (i v b : ℕ) → v < b → ((j : ℕ) → getD l j 0 < b) → (j : ℕ) → getD (set l i v) j 0 < b
-set-small [] i v b g h j = h j
-set-small (x ∷ l) zero v b g h zero = g
-set-small (x ∷ l) zero v b g h (suc j) = h (suc j)
-set-small (x ∷ l) (suc i) v b g h zero = h 0
-set-small (x ∷ l) (suc i) v b g h (suc j) = set-small l i v b g (λ k. h (suc k)) j

@@ -1,16 +1,15 @@
 -- One list of places seen as two, the waits and the owings: what the changes of the list do to each.
 use Prim.Native.Nat.{ℕ, _+_}
-use mathlib.Core.Path.{_≡_, refl, sym, ap, _∙_}
+use mathlib.Core.Path.{_≡_, refl, sym, ap}
 use mathlib.Core.Bool.{Bool, true, false, not, _&&_}
 use mathlib.Core.List.{List}
-use mathlib.Core.Option.{Option, some}
+use mathlib.Core.Option.{some}
 use native.Mathlib.Omega.{arith}
 use lib.ListN.{length}
 use Rattle.lists.specs.Lists.{one, count, keep, first, without, changed}
+use Rattle.lists.proofs.Kept.{count-parts, length-parts, first-within, without-within, without-apart, changed-out, changed-in, keep-wider, keep-agrees}
 use Rattle.places.specs.declared.Place.{Place}
-use Rattle.places.specs.Places.{isOpen, isOwed, waits, owings, owing, openOn, asksExactly, owesExactly, asks, owedBy, notOwedBy}
-use Rattle.places.proofs.Walks.{clash}
-use Rattle.places.proofs.Parts.{count-parts, length-parts, first-within, without-within, without-apart, changed-out, changed-in, keep-wider, keep-agrees}
+use Rattle.places.specs.Places.{isOpen, isOwed, waits, owings, owing, openOn, asksExactly, owesExactly, asks, notOwedBy}
 
 -- 'waits plus owings': the list has no other places
 pub two : (ps : List Place) → length ps ≡ length (waits ps) + length (owings ps)

@@ -9,6 +9,8 @@ use lib.ListN.{length}
 use borrow.Author.Tests.{eq-eqb, ne-eqb, le-ltb, lt-ltb, le-leb, lt-leb, leb-false}
 use Rattle.lists.specs.declared.Found.the-variants.{At, Nothing}
 use Rattle.lists.specs.Lists.{someOf, find, onto}
+use Rattle.lists.proofs.Tests.{differ, checks-are}
+use Rattle.lists.proofs.Numbers.{find-none}
 use Rattle.tapa.specs.Address.{categoryOf, handlerOf}
 use Rattle.tapa.specs.Types.{known}
 use Rattle.tapa.specs.Codes.{invalidDestination, handlerError, handlerBusy, insufficientResources, mustBeOpened, unsupportedOperation}
@@ -18,13 +20,12 @@ use Rattle.table.specs.Table.{listed}
 use Rattle.places.specs.declared.Place.{Place}
 use Rattle.places.specs.Places.{placeAt, placesOf, openOn, standsOn, onSlot, Becomes, pushed}
 use Rattle.places.specs.Places as places
-use Rattle.places.proofs.Walks.{here, find-none}
+use Rattle.places.proofs.Walks.{here}
 use Rattle.rules.specs.View.{View}
 use Rattle.rules.specs.declared.Outcome.{Outcome}
 use Rattle.rules.specs.declared.Outcome.the-variants.{Passed}
 use Rattle.rules.specs.Judge.{allows, mayAsk, busy, turned, rules, judgeCommand}
 use Rattle.rules.specs.Apply.{place, rowsAfter}
-use Rattle.rules.proofs.Lists.{differ, checks-are}
 use Rattle.router.specs.Steps.{Writing, closedTo}
 
 -- ---- rule d

@@ -7,10 +7,10 @@ use native.Mathlib.Numerals.{add-one}
 use native.Mathlib.Omega.{arith}
 use lib.ListN.{length}
 use Rattle.lists.specs.Lists.{count}
+use Rattle.lists.proofs.Tests.{split}
 use Rattle.places.specs.declared.Place.{Place}
 use Rattle.places.specs.Places.{placeAt, placesOf, isOpen, isOwed}
 use Rattle.places.proofs.Points.{len}
-use Rattle.rules.proofs.Lists.{split}
 
 -- a count, on the way up
 module _ (l : List ℕ) (i m : ℕ) (e : m ≡ count isOwed (placesOf l i)) where

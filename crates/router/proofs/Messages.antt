@@ -8,6 +8,9 @@ use lib.ListN.{length}
 use borrow.Author.Tests.{eq-eqb, ne-eqb, eqb-true, le-ltb, lt-ltb}
 use Rattle.lists.specs.declared.Found.the-variants.{At, Nothing}
 use Rattle.lists.specs.Lists.{checks, someOf, find, keep, changedAt, onto}
+use Rattle.lists.proofs.Tests.{split, eqb-same}
+use Rattle.lists.proofs.First.{first-strong}
+use Rattle.lists.proofs.Numbers.{find-none, change-found}
 use Rattle.tapa.specs.Address.{handlerOf}
 use Rattle.tapa.specs.Codes.{response, handlerError, addEvent, eventHandler}
 use Rattle.tapa.specs.declared.Refusal.{Refusal}
@@ -22,13 +25,12 @@ use Rattle.table.specs.Table.{listed, openedAt, rowsOf, Columns, Opened}
 use Rattle.places.specs.declared.Place.{Place}
 use Rattle.places.specs.Places.{placeAt, placesOf, openOn, asksExactly, standsIn, notOwedBy, owing, Becomes}
 use Rattle.places.specs.Places as places
-use Rattle.places.proofs.Walks.{here, find-none, find-strong, change-found}
+use Rattle.places.proofs.Walks.{here}
 use Rattle.rules.specs.View.{View}
 use Rattle.rules.specs.declared.Outcome.{Outcome}
 use Rattle.rules.specs.declared.Outcome.the-variants.{Event, Given, Reset, Refused}
 use Rattle.rules.specs.Judge.{judgeResponse, isAddEvent, judgeEvent, judgeCommand, commonTests, judgeKind, judgeRead, judgeMessage, yields, judgeGiveUp, judgeReplaced}
 use Rattle.rules.specs.Apply.{written, rowsAfter, placesAfter}
-use Rattle.rules.proofs.Lists.{split, eqb-same}
 use Rattle.rules.proofs.Waits.{exact-on, open-thread}
 use Rattle.router.specs.declared.Step.{Step}
 use Rattle.router.specs.Steps.{heldView, Writing, Moving, Stepping}
@@ -167,7 +169,7 @@ module _ (l : List ℕ) (n t i : ℕ) (f : find (openOn t) (placesOf l n) ≡ At
       let z : placeAt l i .thread ≡ t = eqb-true (placeAt l i .thread) t (open-thread t (placeAt l i) (h .meets)) in
       let s : asksExactly (placeAt l i .asked) t (placeAt l i) ≡ true = rw (h .meets, eqb-same (placeAt l i .asked)) in
       ap (λ (u : ℕ). find (asksExactly (placeAt l i .asked) u) (placesOf l n)) z
-      ∙ find-strong (asksExactly (placeAt l i .asked) t) (openOn t) (placeAt l i) (exact-on (placeAt l i .asked) t) s (placesOf l n) (h .it) ∙ f
+      ∙ first-strong (asksExactly (placeAt l i .asked) t) (openOn t) (exact-on (placeAt l i .asked) t) (placesOf l n) (placeAt l i) (h .it) s .at ∙ f
 
   gives-it : Gives (placeAt l i)
   gives-it e w =

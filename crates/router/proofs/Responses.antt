@@ -9,6 +9,9 @@ use borrow.Author.Tests.{eq-eqb, ne-eqb}
 use Rattle.lists.specs.declared.Found.{Found}
 use Rattle.lists.specs.declared.Found.the-variants.{At, Nothing}
 use Rattle.lists.specs.Lists.{checks, someOf, find, first, withoutAt}
+use Rattle.lists.proofs.Tests.{split, differ}
+use Rattle.lists.proofs.First.{first-meets, first-strong, none-passes}
+use Rattle.lists.proofs.Numbers.{find-none, end-found}
 use Rattle.tapa.specs.Address.{handlerOf}
 use Rattle.tapa.specs.Codes.{successful, openHandler, closeHandler}
 use Rattle.tapa.specs.declared.Refusal.the-variants.{NoResponseCode, StrayResponse, WrongAsker}
@@ -18,13 +21,12 @@ use Rattle.message.specs.declared.Coded.the-variants.{Code, Missing}
 use Rattle.table.specs.Table.{rowsOf, Columns, Opened}
 use Rattle.places.specs.declared.Place.{Place}
 use Rattle.places.specs.Places.{placeAt, placesOf, openOn, asksExactly, owesExactly, Becomes}
-use Rattle.places.proofs.Walks.{here, find-none, end-found, none-passes, one-passes, find-strong}
+use Rattle.places.proofs.Walks.{here}
 use Rattle.rules.specs.View.{View}
 use Rattle.rules.specs.declared.Outcome.{Outcome}
 use Rattle.rules.specs.declared.Outcome.the-variants.{Answered, Swallowed, Refused}
 use Rattle.rules.specs.Judge.{ifExactly, answerable, replyTests, late, reply, judgeResponse}
 use Rattle.rules.specs.Apply.{reopened, rowsAfter, written}
-use Rattle.rules.proofs.Lists.{split, differ}
 use Rattle.rules.proofs.Waits.{exact-on}
 use Rattle.router.specs.Steps.{heldView, Placing, Moving, ifAsked, answerAt, Reopening}
 
@@ -63,7 +65,7 @@ module _ (l : List ℕ) (n a t : ℕ) where
       let h = here (openOn t) l n i e in
       let s : asksExactly a t (placeAt l i) ≡ true = rw (h .meets, p) in
       let k : find (asksExactly a t) (placesOf l n) ≡ At i =
-      find-strong (asksExactly a t) (openOn t) (placeAt l i) (exact-on a t) s (placesOf l n) (h .it) ∙ e in
+      first-strong (asksExactly a t) (openOn t) (exact-on a t) (placesOf l n) (placeAt l i) (h .it) s .at ∙ e in
       record {
         it = ap (ifExactly a) (h .it) ∙ rw p;
         found = k;
@@ -90,7 +92,8 @@ module _ (l : List ℕ) (n : ℕ) (h : Head) where
   unfolding late
   swallows i k m f b =
       let q = owesExactly (h .source) (h .thread) in
-      let s : someOf q (placesOf l n) ≡ true = one-passes q (placesOf l n) (placeAt l i) (here q l n i f .it) .0 in
+      let w = here q l n i f in
+      let s : someOf q (placesOf l n) ≡ true = first-meets q q (placesOf l n) (placeAt l i) (w .it) (w .meets) in
       rw s (record { outcome = refl; places = record { holds = b .holds ∙ end-found q (placesOf l n) i f; law = b .law } })
 
   pub strays : find (owesExactly (h .source) (h .thread)) (placesOf l n) ≡ Nothing → late (placesOf l n) h ≡ Refused StrayResponse

@@ -1,28 +1,18 @@
 -- What a start hands back: over an accepted table a fresh router that keeps the law.
 use mathlib.Core.Path.{_≡_, refl, ap, _∙_}
 use mathlib.Core.List.{List, reverse}
-use Rattle.tapa.specs.declared.Refusal.the-variants.{RowCountOrShape}
 use Rattle.table.specs.declared.Row.{Row}
 use Rattle.table.specs.declared.Rows.{Rows}
 use Rattle.table.specs.declared.Checked.{Checked}
 use Rattle.table.specs.declared.Checked.the-variants.{Accepted, Refused}
 use Rattle.table.specs.Table.{heldRows, Held, judgeRows, judgeTable, keptBy, rowsRead, noRows, Proper}
 use Rattle.table.proofs.Judged.{accepted, none-proper}
-use Rattle.table.proofs.Read.{none-held, read-held, read-rows, judge-read}
+use Rattle.table.proofs.Read.{rows-proper, none-held, read-held, read-rows, judge-read}
 use Rattle.places.proofs.Points as points
 use Rattle.rules.specs.View.{fresh}
-use Rattle.rules.proofs.Lists.{split, differ}
 use Rattle.rules.proofs.Kept.{conduct-fresh}
 use Rattle.router.specs.Router.{viewOf, Lawful}
 use Rattle.router.specs.Start.{freshOver, startWith, startOf}
-
--- rows that are accepted are a table
-pub rows-proper : (t : Rows) → judgeRows t ≡ Accepted → Proper (heldRows t)
-unfolding judgeRows
-rows-proper t e =
-    split (t .more)
-    (λ p. let z : Refused RowCountOrShape ≡ Accepted = rw p at e in differ (cc))
-    (λ p. accepted (heldRows t) (rw p at e))
 
 pub fresh-lawful : (t : Rows) → Held t → Proper (heldRows t) → Lawful (freshOver t)
 fresh-lawful t h p = record {

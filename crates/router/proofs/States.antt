@@ -7,6 +7,7 @@ use mathlib.Core.Option.{Option, none, some}
 use lib.Dec.{ltb}
 use lib.ListN.{replicate}
 use Rattle.lists.specs.Lists.{first}
+use Rattle.lists.proofs.Tests.{split}
 use Rattle.table.specs.declared.Row.{Row}
 use Rattle.table.specs.declared.Rows.{Rows}
 use Rattle.table.specs.declared.SetUp.{SetUp}
@@ -20,7 +21,6 @@ use Rattle.rules.specs.View.{View}
 use Rattle.rules.specs.declared.Outcome.{Outcome}
 use Rattle.rules.specs.Judge.{Call, giveUp, judge, yields, judgeGiveUp}
 use Rattle.rules.specs.Apply.{rowsAfter, applied}
-use Rattle.rules.proofs.Lists.{split}
 use Rattle.rules.proofs.Kept as kept
 use Rattle.router.specs.declared.Router.{Router}
 use Rattle.router.specs.declared.Step.{Step}

@@ -2,12 +2,15 @@
 use Prim.Native.Nat.{ℕ, _+_, _≤_}
 use mathlib.Core.Path.{_≡_, refl, ap, _∙_}
 use mathlib.Core.Bool.{Bool, true, false, not, _||_, _&&_, or-true}
-use mathlib.Core.List.{List, [], _∷_}
+use mathlib.Core.List.{List}
 use mathlib.Core.Option.{some}
 use native.Mathlib.Omega.{arith}
 use lib.Dec.{eqb}
 use borrow.Author.Tests.{eqb-true, eq-eqb}
-use Rattle.lists.specs.Lists.{count, someOf, first, without, changed}
+use Rattle.lists.specs.Lists.{count, someOf, first}
+use Rattle.lists.proofs.Tests.{split, clash, and-yes, eqb-same}
+use Rattle.lists.proofs.Counts.{count-apart, some-kept, none-le}
+use Rattle.lists.proofs.First.{some-changed, first-yes, first-meets, none-left, changed-meets}
 use Rattle.tapa.specs.Address.{handlerOf, multi}
 use Rattle.tapa.specs.Codes.{successful, openHandler, closeHandler}
 use Rattle.table.specs.declared.Row.{Row}
@@ -20,7 +23,6 @@ use Rattle.rules.specs.declared.Outcome.the-variants.{Passed, Answered, 
 use Rattle.rules.specs.Judge.{busy}
 use Rattle.rules.specs.Apply.{place, reopened, applied}
 use Rattle.rules.specs.Conduct.{Conduct}
-use Rattle.rules.proofs.Lists.{split, clash, and-yes, eqb-same, count-apart, some-changed, some-kept, none-le, first-yes, first-meets}
 use Rattle.rules.proofs.Waits.{open-thread, exact-on}
 use Rattle.rules.proofs.Allowed.{Innermost, Idle}
 
@@ -52,30 +54,19 @@ passed-innermost v asker asked kind t = rw (eqb-same t)
 
 -- ---- 'it is answered and the wait ends'; 'the message is swallowed ... and the owing ends'
 
-without-none : {A : Type 0} (q : A → Bool) (l : List A) → count q l ≤ 1 → count q (without q l) ≡ 0
-without-none q [] e = refl
-without-none q (x ∷ l) e =
-    split (q x) (λ b. let e′ : 1 + count q l ≤ 1 = rw b at e in rw b (omega arith)) (λ b. rw (b, b) (omega (arith, without-none q l (omega arith))))
-
 pub answered-ends : (v : View) → Conduct v → (asked asker t k : ℕ) → count (asksExactly asked t) (applied (Answered asked asker t k) v .places) ≡ 0
-answered-ends v c asked asker t k = without-none (asksExactly asked t) (v .places) (omega (arith, exact-once v c asked t))
+answered-ends v c asked asker t k = none-left (asksExactly asked t) (v .places) (omega (arith, exact-once v c asked t))
 
 pub swallowed-ends : (v : View) → Conduct v → (asked t : ℕ) → count (owesExactly asked t) (applied (Swallowed asked t) v .places) ≡ 0
-swallowed-ends v c asked t = without-none (owesExactly asked t) (v .places) (omega (arith, exact-once v c asked t))
+swallowed-ends v c asked t = none-left (owesExactly asked t) (v .places) (omega (arith, exact-once v c asked t))
 
 -- ---- 'The innermost wait becomes an owing'
-
-given-some : (q : Place → Bool) (l : List Place) (x : Place) (r : Place → Bool) → first q l ≡ some x → r (owing x) ≡ true → someOf r (changed owing q l) ≡ true
-given-some q [] x r e p = let z : _≡_ {A = ℕ} 0 1 = cc in absurd (omega arith)
-given-some q (y ∷ l) x r e p =
-    split (q y) (λ b. let k : y ≡ x = (let f : some y ≡ some x = rw b at e in cc) in rw (b, k, p))
-    (λ b. rw (b, given-some q l x r (rw b at e) p, or-true))
 
 pub given-owes : (v : View) (asker asked t : ℕ) → Innermost v asker asked t → someOf (owesExactly asked t) (applied (Given asker asked t) v .places) ≡ true
 given-owes v asker asked t i =
     let y = first-yes (asksExactly asked t) (v .places) (i .it) (i .found) in
     let o : owesExactly asked t (owing (i .it)) ≡ true = rw (open-thread t (i .it) (exact-on asked t (i .it) y)) (eq-eqb (i .it .asked) asked (i .its-asked)) in
-    given-some (asksExactly asked t) (v .places) (i .it) (owesExactly asked t) (i .found) o
+    changed-meets owing (owesExactly asked t) (asksExactly asked t) (v .places) (i .it) (i .found) o
 
 -- 'Freeing a handler at give-up' is the wrong turning: whose wait was given up is still busy, on its thread and, where it is single, on any
 pub given-busy : (v : View) (asker asked t : ℕ) → Innermost v asker asked t → (next u : ℕ) → (not (multi (handlerOf asked)) || eqb t u) ≡ true

@@ -8,6 +8,8 @@ use lib.Dec.{eqb, ltb}
 use lib.ListN.{length}
 use borrow.Author.Tests.{not-false, ltb-false, leb-false, eqb-true, eq-eqb}
 use Rattle.lists.specs.Lists.{someOf, first}
+use Rattle.lists.proofs.Tests.{split, differ, checks-are}
+use Rattle.lists.proofs.First.{first-yes, first-strong}
 use Rattle.tapa.specs.Address.{categoryOf, handlerOf}
 use Rattle.tapa.specs.Codes.{response, openHandler, eventHandler}
 use Rattle.tapa.specs.Types.{known}
@@ -26,7 +28,6 @@ use Rattle.rules.specs.declared.Outcome.{Outcome}
 use Rattle.rules.specs.declared.Outcome.the-variants.{Passed, Answered, Swallowed, Event, Turned, Given, Reset, Refused}
 use Rattle.rules.specs.Judge.{ifExactly, answerable, replyTests, late, reply, judgeResponse, isAddEvent, judgeEvent, mayAsk, busy, rules, judgeCommand}
 use Rattle.rules.specs.Judge.{commonTests, judgeKind, judgeRead, judgeMessage, yields, judgeGiveUp, judgeReplaced, Call, message, giveUp, replaced, judge}
-use Rattle.rules.proofs.Lists.{split, differ, checks-are, first-yes, first-strong}
 use Rattle.rules.proofs.Waits.{exact-on, open-thread}
 
 -- ---- an outcome, and what was so

@@ -9,6 +9,8 @@ use lib.Dec.{eqb, leb}
 use lib.ListN.{length, take, length-append}
 use borrow.Author.Tests.{eqb-true, eqb-false, eq-eqb, lt-leb}
 use Rattle.lists.specs.Lists.{checks, count, All}
+use Rattle.lists.proofs.Tests.{split, clash, checks-skip}
+use Rattle.lists.proofs.Counts.{count-append}
 use Rattle.tapa.specs.Address.{handlerOf, multi}
 use Rattle.tapa.specs.Codes.{insufficientResources}
 use Rattle.message.specs.declared.Head.{Head}
@@ -21,7 +23,6 @@ use Rattle.rules.specs.declared.Outcome.the-variants.{Passed}
 use Rattle.rules.specs.Judge.{turned, rules, judgeCommand}
 use Rattle.rules.specs.Conduct.{Placed, Conduct}
 use Rattle.rules.specs.Words.{singles, multis, mostOf, most}
-use Rattle.rules.proofs.Lists.{split, clash, checks-skip, count-append}
 
 -- how many commands a handler can have under way
 abbrev width : ℕ → ℕ

@@ -8,6 +8,9 @@ use native.Mathlib.Omega.{arith}
 use lib.Dec.{eqb}
 use borrow.Author.Tests.{eqb-true}
 use Rattle.lists.specs.Lists.{count, someOf, keep, first, without, changed, All}
+use Rattle.lists.proofs.Tests.{split, or-no, and-yes}
+use Rattle.lists.proofs.Counts.{count-le, none-zero, count-keep, All-keep, All-map}
+use Rattle.lists.proofs.First.{count-without, count-changed, All-without, All-changed}
 use Rattle.tapa.specs.Address.{categoryOf, handlerOf, multi}
 use Rattle.tapa.specs.Codes.{successful, openHandler, closeHandler}
 use Rattle.table.specs.declared.Row.{Row}
@@ -22,7 +25,6 @@ use Rattle.rules.specs.declared.Outcome.the-variants.{Passed, Answered, 
 use Rattle.rules.specs.Judge.{busy, Call, judge}
 use Rattle.rules.specs.Apply.{place, reopened, rowsAfter, applied}
 use Rattle.rules.specs.Conduct.{Placed, Tree, Chained, Conduct}
-use Rattle.rules.proofs.Lists.{split, or-no, and-yes, count-le, count-none, count-without, count-keep, count-changed, All-without, All-keep, All-changed, All-map}
 use Rattle.rules.proofs.Waits.{waits-given, waits-swallowed, first-waits, found-waits, tree-waits, waits-tree, chained-waits, waits-chained}
 use Rattle.rules.proofs.Trees.{tree-passed, tree-ended, chained-ended}
 use Rattle.rules.proofs.Allowed.{Allowed, Innermost, allowed}
@@ -90,7 +92,7 @@ once-passed p l n f h t =
     split (onSlot h t p)
     (λ q. rw q (omega (
       arith,
-      count-none (onSlot (handlerOf (p .asked)) (p .thread)) l n,
+      none-zero (onSlot (handlerOf (p .asked)) (p .thread)) l n,
       count-le (onSlot h t) (onSlot (handlerOf (p .asked)) (p .thread)) (λ x r. slot-same h t p x q r) l,
     )))
     (λ q. rw q (omega (arith, f h t)))

@@ -1,4 +1,3 @@
-pub mod Lists
 pub mod Waits
 pub mod Allowed
 pub mod Says

@@ -7,6 +7,8 @@ use mathlib.Core.Option.{Option, none, some}
 use lib.Dec.{eqb, ltb}
 use borrow.Author.Tests.{eqb-true}
 use Rattle.lists.specs.Lists.{someOf, first}
+use Rattle.lists.proofs.Tests.{split, checks-are}
+use Rattle.lists.proofs.First.{first-yes}
 use Rattle.tapa.specs.Address.{handlerOf}
 use Rattle.tapa.specs.Codes.{response, eventHandler}
 use Rattle.tapa.specs.declared.Refusal.{Refusal}
@@ -26,7 +28,6 @@ use Rattle.rules.specs.declared.Outcome.the-variants.{Passed, Answered, 
 use Rattle.rules.specs.Judge.{answerable, replyTests, late, reply, judgeResponse, isAddEvent, rules, judgeCommand, commonTests, judgeKind, judgeRead, judgeMessage}
 use Rattle.rules.specs.Judge.{yields, judgeGiveUp, judgeReplaced, Call, message, giveUp, replaced, judge}
 use Rattle.rules.specs.Says.{Spoken, ReadSays, GivesUp, Replaces, Says}
-use Rattle.rules.proofs.Lists.{split, checks-are, first-yes}
 use Rattle.rules.proofs.Waits.{open-thread}
 
 -- ---- a message

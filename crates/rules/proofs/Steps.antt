@@ -9,6 +9,8 @@ use lib.ListN.{length}
 use borrow.Author.Tests.{lt-ltb, le-ltb, eq-eqb, ne-eqb}
 use Rattle.lists.specs.declared.Found.the-variants.{At}
 use Rattle.lists.specs.Lists.{someOf, first, without, changed, find, withoutAt, changedAt}
+use Rattle.lists.proofs.First.{first-yes, first-strong}
+use Rattle.lists.proofs.Numbers.{end-found, change-found}
 use Rattle.tapa.specs.Address.{categoryOf, handlerOf}
 use Rattle.tapa.specs.Codes.{invalidDestination, handlerError, handlerBusy, insufficientResources, mustBeOpened, unsupportedOperation, response, openHandler}
 use Rattle.tapa.specs.Types.{known}
@@ -22,11 +24,9 @@ use Rattle.message.specs.Message.{readOf, partOf, codeOf}
 use Rattle.table.specs.Table.{listed, openedAt}
 use Rattle.places.specs.declared.Place.{Place}
 use Rattle.places.specs.Places.{openOn, asksExactly, owesExactly, standsIn}
-use Rattle.places.proofs.Walks.{end-found, change-found}
 use Rattle.rules.specs.View.{View}
 use Rattle.rules.specs.declared.Outcome.the-variants.{Passed, Answered, Swallowed, Given, Reset, Refused}
 use Rattle.rules.specs.Judge.{late, reply, judgeResponse, isAddEvent, judgeEvent, mayAsk, busy, turned, judgeCommand, judgeKind, judgeRead, judgeMessage, yields, judgeGiveUp, judgeReplaced}
-use Rattle.rules.proofs.Lists.{first-yes, first-strong}
 use Rattle.rules.proofs.Waits.{exact-on}
 
 -- ---- a message: the common checks

@@ -7,12 +7,14 @@ use mathlib.Core.Option.{Option, some}
 use lib.Dec.{eqb}
 use borrow.Author.Tests.{eqb-true, eq-eqb}
 use Rattle.lists.specs.Lists.{someOf, first, without}
+use Rattle.lists.proofs.Tests.{split, clash, or-no, and-yes, or-left, eqb-same}
+use Rattle.lists.proofs.Counts.{some-le, none-le}
+use Rattle.lists.proofs.First.{none-without, some-without, first-yes, first-strong}
 use Rattle.tapa.specs.Address.{categoryOf, handlerOf}
 use Rattle.places.specs.declared.Place.{Place}
 use Rattle.places.specs.Places.{openOn, asksExactly, asks, stands, standsOn}
 use Rattle.rules.specs.Judge.{allows, mayAsk}
 use Rattle.rules.specs.Conduct.{grownIn, Grown, Tree, Chained}
-use Rattle.rules.proofs.Lists.{split, clash, or-no, and-yes, or-left, eqb-same, some-le, none-le, none-without, some-without, first-yes, first-strong}
 use Rattle.rules.proofs.Waits.{open-thread, exact-on}
 
 -- h is asked in a wait of thread t

@@ -7,16 +7,17 @@ use native.Mathlib.Omega.{arith}
 use lib.Dec.{eqb}
 use borrow.Author.Tests.{eqb-true}
 use Rattle.lists.specs.Lists.{count, someOf}
+use Rattle.lists.proofs.Tests.{split, and-yes, or-left, eqb-turn}
+use Rattle.lists.proofs.Counts.{count-le, none-zero, none-le, some-ext, some-kept, keep-nothing, All-map}
+use Rattle.lists.proofs.Kept.{some-parts}
 use Rattle.tapa.specs.Address.{handlerOf, multi}
 use Rattle.table.specs.Table.{listed}
 use Rattle.places.specs.declared.Place.{Place}
 use Rattle.places.specs.Places.{isOpen, isOwed, waits, owings, onThread, openOn, asks, standsOn, onSlot}
-use Rattle.places.proofs.Parts.{some-parts}
 use Rattle.rules.specs.View.{View}
 use Rattle.rules.specs.Judge.{mayAsk, busy}
 use Rattle.rules.specs.Conduct.{Placed, grownIn, Grown, Chained, Conduct}
 use Rattle.rules.specs.Words.{chainOf, dLetsAsk, asksOn, eTurnsBack, Line, askedBy, Worded}
-use Rattle.rules.proofs.Lists.{split, and-yes, or-left, eqb-turn, count-le, count-none, none-le, some-ext, some-kept, keep-nothing, All-map}
 use Rattle.rules.proofs.Waits.{open-is, open-thread}
 use Rattle.rules.proofs.Trees.{askedOn, asked-on}
 
@@ -70,7 +71,7 @@ distinct r t h (p ∷ l) g =
     (λ q.
     let n : someOf (λ x. eqb x h) (r ∷ askedBy (chainOf t l)) ≡ false =
     rw (← (eqb-true (handlerOf (p .asked)) h q), ← (grown-listed r t (handlerOf (p .asked)) l)) (g .0 b .1) in
-    rw q (omega (arith, count-none (λ x. eqb x h) (r ∷ askedBy (chainOf t l)) n)))
+    rw q (omega (arith, none-zero (λ x. eqb x h) (r ∷ askedBy (chainOf t l)) n)))
     (λ q. rw q (omega (arith, distinct r t h l (g .1))))))
     (λ b. rw b (distinct r t h l (g .1)))
 

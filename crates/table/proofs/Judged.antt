@@ -8,6 +8,8 @@ use lib.Dec.{eqb, leb, ltb}
 use lib.ListN.{length, length-reverse}
 use borrow.Author.Tests.{lt-ltb, le-ltb, ltb-false, leb-true, eqb-true, eq-eqb, not-false}
 use Rattle.lists.specs.Lists.{one, count, someOf, All}
+use Rattle.lists.proofs.Tests.{or-no}
+use Rattle.lists.proofs.Counts.{none-zero, zero-none, some-reverse, count-reverse}
 use Rattle.tapa.specs.Address.{categoryOf, subAddressOf, handlerOf}
 use Rattle.tapa.specs.Codes.{eventHandler}
 use Rattle.tapa.specs.declared.Refusal.{Refusal}
@@ -16,7 +18,6 @@ use Rattle.table.specs.declared.Row.{Row}
 use Rattle.table.specs.declared.Checked.{Checked}
 use Rattle.table.specs.declared.Checked.the-variants.{Accepted, Refused}
 use Rattle.table.specs.Table.{isAt, listed, shaped, misshapen, isMulti, repeats, judgeTable, Proper}
-use Rattle.table.proofs.Counts.{none-count, count-none, some-reverse, count-reverse}
 
 module _ (rows : List Row) where
   pub judge-none : length rows < 1 → judgeTable rows ≡ Refused RowCountOrShape
@@ -48,18 +49,14 @@ module _ (rows : List Row) where
 
 -- ---- repeats are counts over one
 
-either : (a b : Bool) → a || b ≡ false → (a ≡ false) × (b ≡ false)
-either true b e = absurd (let z : _≡_ {A = ℕ} 0 1 = cc in omega arith)
-either false b e = (refl, e)
-
 pub once : (rows : List Row) → repeats rows ≡ false → (h : ℕ) → count (isAt h) rows ≤ 1
 once [] e h = omega arith
 once (r ∷ rows) e h =
-    let p = either (listed (r .address) rows) (repeats rows) e in
+    let p = or-no (listed (r .address) rows) (repeats rows) e in
     go (eqb (r .address) h) refl (once rows (p .1) h) (p .0)
   where
     go : (b : Bool) → eqb (r .address) h ≡ b → count (isAt h) rows ≤ 1 → listed (r .address) rows ≡ false → one b + count (isAt h) rows ≤ 1
-    go true f l n = omega (arith, none-count (isAt h) rows (rw (sym (eqb-true (r .address) h f)) n))
+    go true f l n = omega (arith, none-zero (isAt h) rows (rw (sym (eqb-true (r .address) h f)) n))
     go false f l n = omega arith
 
 pub apart : (rows : List Row) → ((h : ℕ) → count (isAt h) rows ≤ 1) → repeats rows ≡ false
@@ -67,7 +64,7 @@ apart [] l = refl
 apart (r ∷ rows) l =
     let here : one (eqb (r .address) (r .address)) + count (isAt (r .address)) rows ≤ 1 = l (r .address) in
     let none : count (isAt (r .address)) rows ≡ 0 = omega (arith, rw (eq-eqb (r .address) (r .address) refl) at here) in
-    rw (count-none (isAt (r .address)) rows none) (apart rows (λ h. omega (arith, l h)))
+    rw (zero-none (isAt (r .address)) rows none) (apart rows (λ h. omega (arith, l h)))
 
 -- two lists in which each handler stands as often have repeats both or neither
 pub repeats-same : (l m : List Row) → ((h : ℕ) → count (isAt h) l ≡ count (isAt h) m) → repeats l ≡ repeats m
@@ -84,7 +81,7 @@ repeats-same l m same = go (repeats l) (repeats m) refl refl
 pub shaped-all : (rows : List Row) → someOf misshapen rows ≡ false → All (λ (r : Row). shaped (r .address) ≡ true) rows
 shaped-all [] e = tt
 shaped-all (r ∷ rows) e =
-    let p = either (misshapen r) (someOf misshapen rows) e in
+    let p = or-no (misshapen r) (someOf misshapen rows) e in
     (not-false (shaped (r .address)) (p .0), shaped-all rows (p .1))
 
 pub all-shaped : (rows : List Row) → All (λ (r : Row). shaped (r .address) ≡ true) rows → someOf misshapen rows ≡ false
@@ -103,7 +100,7 @@ pub has-row : (rows : List Row) → judgeTable rows ≡ Accepted → 1 ≤ lengt
 unfolding judgeTable
 has-row rows e =
     let a = never (ltb (length rows) 1 || ltb 16 (length rows)) _ _ (refused RowCountOrShape) e in
-    ltb-false (length rows) 1 (either (ltb (length rows) 1) (ltb 16 (length rows)) (a .0) .0)
+    ltb-false (length rows) 1 (or-no (ltb (length rows) 1) (ltb 16 (length rows)) (a .0) .0)
 
 pub none-proper : Proper []
 none-proper = record { few = omega arith; shapes = tt; once = λ h. omega arith; multis = omega arith }
@@ -116,7 +113,7 @@ accepted rows e =
     let b = never (someOf misshapen rows) _ _ (refused RowCountOrShape) (a .1) in
     let c = never (repeats rows) _ _ (refused Repeat) (b .1) in
     let d = never (ltb 4 (count isMulti rows)) _ _ (refused TooManyMulti) (c .1) in
-    let n = either (ltb (length rows) 1) (ltb 16 (length rows)) (a .0) in
+    let n = or-no (ltb (length rows) 1) (ltb 16 (length rows)) (a .0) in
     record {
       few = ltb-false 16 (length rows) (n .1);
       shapes = shaped-all rows (b .0);

@@ -1,15 +1,15 @@
 -- A handler that becomes open or closed: what a table says then, and that it is judged as before.
-use Prim.Native.Nat.{ℕ, suc, _+_, _≤_}
-use mathlib.Core.Path.{_≡_, refl, sym, ap, _∙_}
+use Prim.Native.Nat.{ℕ, _+_, _≤_}
+use mathlib.Core.Path.{_≡_, refl, sym, _∙_}
 use mathlib.Core.Bool.{Bool, true, false, _&&_, _||_, cond, or-false}
 use mathlib.Core.List.{List, [], _∷_}
 use native.Mathlib.Omega.{arith}
-use lib.ListN.{length}
 use borrow.Author.Tests.{eqb-true, ne-eqb}
-use Rattle.lists.specs.Lists.{one, count, someOf}
+use Rattle.lists.specs.Lists.{one, count}
+use Rattle.lists.proofs.Counts.{zero-none}
+use Rattle.lists.proofs.First.{length-changed, count-changed, some-changed}
 use Rattle.table.specs.declared.Row.{Row}
 use Rattle.table.specs.Table.{isAt, listed, openedAt, marked, setOpened, misshapen, isMulti, judgeTable, Proper}
-use Rattle.table.proofs.Counts.{count-none}
 use Rattle.table.proofs.Judged.{repeats-same, accepted, proper}
 
 -- a handler that is not in the table is not open
@@ -22,40 +22,14 @@ not-open h (r ∷ rows) e = go (isAt h r) (not-open h rows) e
     go false ih f = ih f
 
 module _ (h : ℕ) (b : Bool) where
-  pub set-length : (rows : List Row) → length (setOpened h b rows) ≡ length rows
-  set-length [] = refl
-  set-length (r ∷ rows) = go (isAt h r) (set-length rows)
-    where
-      go : (x : Bool) → length (setOpened h b rows) ≡ length rows → length (cond x (marked b r ∷ rows) (r ∷ setOpened h b rows)) ≡ length (r ∷ rows)
-      go true ih = refl
-      go false ih = ap suc ih
-
-  -- a test that does not look at the mark
-  module _ (q : Row → Bool) (blind : (r : Row) → q (marked b r) ≡ q r) where
-    pub set-some : (rows : List Row) → someOf q (setOpened h b rows) ≡ someOf q rows
-    set-some [] = refl
-    set-some (r ∷ rows) = go (isAt h r) (set-some rows)
-      where
-        go : (x : Bool) → someOf q (setOpened h b rows) ≡ someOf q rows → someOf q (cond x (marked b r ∷ rows) (r ∷ setOpened h b rows)) ≡ someOf q (r ∷ rows)
-        go true ih = rw (blind r)
-        go false ih = rw ih
-
-    pub set-count : (rows : List Row) → count q (setOpened h b rows) ≡ count q rows
-    set-count [] = refl
-    set-count (r ∷ rows) = go (isAt h r) (set-count rows)
-      where
-        go : (x : Bool) → count q (setOpened h b rows) ≡ count q rows → count q (cond x (marked b r ∷ rows) (r ∷ setOpened h b rows)) ≡ count q (r ∷ rows)
-        go true ih = rw (blind r)
-        go false ih = rw ih
-
   pub set-judge : (rows : List Row) → judgeTable (setOpened h b rows) ≡ judgeTable rows
   unfolding judgeTable
   set-judge rows =
       rw (
-        set-length rows,
-        set-some misshapen (λ r. refl) rows,
-        repeats-same (setOpened h b rows) rows (λ g. set-count (isAt g) (λ r. refl) rows),
-        set-count isMulti (λ r. refl) rows,
+        length-changed (marked b) (isAt h) rows,
+        some-changed (marked b) misshapen (isAt h) (λ r. refl) rows,
+        repeats-same (setOpened h b rows) rows (λ g. count-changed (marked b) (isAt g) (isAt h) (λ r. refl) rows),
+        count-changed (marked b) isMulti (isAt h) (λ r. refl) rows,
       )
 
   pub set-proper : (rows : List Row) → Proper rows → Proper (setOpened h b rows)
@@ -63,7 +37,7 @@ module _ (h : ℕ) (b : Bool) where
   set-proper (r ∷ rows) p = accepted (setOpened h b (r ∷ rows)) (set-judge (r ∷ rows) ∙ proper (r ∷ rows) (omega arith) p)
 
   pub set-listed : (g : ℕ) (rows : List Row) → listed g (setOpened h b rows) ≡ listed g rows
-  set-listed g rows = set-some (isAt g) (λ r. refl) rows
+  set-listed g rows = some-changed (marked b) (isAt g) (isAt h) (λ r. refl) rows
 
   -- the mark that was set is the one that is found, where no handler stands twice
   pub set-opened : (rows : List Row) → count (isAt h) rows ≤ 1 → openedAt h (setOpened h b rows) ≡ listed h rows && b
@@ -72,7 +46,7 @@ module _ (h : ℕ) (b : Bool) where
     where
       go : (x : Bool) → isAt h r ≡ x → (count (isAt h) rows ≤ 1 → openedAt h (setOpened h b rows) ≡ listed h rows && b) → one x + count (isAt h) rows ≤ 1
           → openedAt h (cond x (marked b r ∷ rows) (r ∷ setOpened h b rows)) ≡ (x || listed h rows) && b
-      go true e ih k = rw (e, not-open h rows (count-none (isAt h) rows (omega arith)), or-false b)
+      go true e ih k = rw (e, not-open h rows (zero-none (isAt h) rows (omega arith)), or-false b)
       go false e ih k = rw e (ih (omega arith))
 
   -- and every other handler's mark stays

@@ -7,9 +7,10 @@ use native.Mathlib.Nat.{not-suc-le-zero, le-of-suc-le-suc}
 use native.Mathlib.Numerals.{add-one}
 use native.Mathlib.Omega.{arith}
 use lib.Dec.{ltb}
-use lib.ListN.{length, getD, take, set, replicate, length-append, length-set}
+use lib.ListN.{length, take, set, length-append, length-set}
 use lib.Seq.{append-snoc, getD-set-same, getD-set-other, take-all, length-take-le}
 use borrow.Author.Tests.{ltb-true, ltb-false, lt-ltb, le-ltb}
+use Rattle.lists.proofs.Cells.{same-all}
 use Rattle.tapa.specs.declared.Refusal.the-variants.{RowCountOrShape}
 use Rattle.table.specs.declared.Row.{Row}
 use Rattle.table.specs.declared.Rows.{Rows}
@@ -101,11 +102,6 @@ read-many (r ∷ ys) t f l = go (ltb (t .count) 16) refl (read-many ys (withRow 
 pub withs-held : (ys : List Row) (t : Rows) → Held t → Held (withRows t ys)
 withs-held [] t h = h
 withs-held (r ∷ ys) t h = withs-held ys (withRow t r) (with-held t r h)
-
-same-all : {A : Type 0} (n j : ℕ) (d : A) → getD (replicate n d) j d ≡ d
-same-all zero j d = refl
-same-all (suc n) zero d = refl
-same-all (suc n) (suc j) d = same-all n j d
 
 pub none-held : Held noRows
 none-held = record { few = omega arith; wide = refl; long = refl; free = λ j l. same-all 16 j 0; shut = λ j l. same-all 16 j false }

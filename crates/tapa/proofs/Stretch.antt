@@ -45,17 +45,17 @@ same-but true a b h t = absurd (h tt)
 same-but false a b h t = same a b t
 
 -- on a stretch a function into Bool has one value, but for the keys ks, which the match took out before
-pub one-value : (f : ℕ → Bool) (b : Bool) (ks : List ℕ) (lo n k : ℕ)
+pub on-stretch : (f : ℕ → Bool) (b : Bool) (ks : List ℕ) (lo n k : ℕ)
     → T (all (λ (x : ℕ). hasKey ks x || Bool·beq (f x) b) lo n)
     → (OneOf ks k → ⊥) → lo ≤ k → k < lo + n → b ≡ f k
-one-value f b ks lo n k t h l u =
+on-stretch f b ks lo n k t h l u =
     same-but (hasKey ks k) (f k) b (λ (y : T (hasKey ks k)). h (hit ks k y)) (within (λ (x : ℕ). hasKey ks x || Bool·beq (f x) b) lo n k t l u)
 
 -- so of the types of one category
 pub stretch : (c : ℕ) (b : Bool) (ks : List ℕ) (lo n : ℕ)
     → T (all (λ (x : ℕ). hasKey ks x || Bool·beq (own c x) b) lo n)
     → (category kind : ℕ) → category ≡ c → (OneOf ks kind → ⊥) → lo ≤ kind → kind < lo + n → b ≡ own category kind
-stretch c b ks lo n t category kind e h l u = one-value (own c) b ks lo n kind t h l u ∙ ap (λ (x : ℕ). own x kind) (sym e)
+stretch c b ks lo n t category kind e h l u = on-stretch (own c) b ks lo n kind t h l u ∙ ap (λ (x : ℕ). own x kind) (sym e)
 
 pub at-key : (c k : ℕ) {category kind : ℕ} → category ≡ c → kind ≡ k → own c k ≡ true → true ≡ own category kind
 at-key c k e f t = sym (rw (e, f) t)

@@ -8,6 +8,7 @@ use lib.Dec.{ltb}
 use lib.ListN.{length}
 use borrow.Author.Tests.{le-ltb}
 use Rattle.lists.specs.Lists.{someOf, All}
+use Rattle.lists.proofs.Tests.{split, or-no}
 use Rattle.tapa.specs.declared.Refusal.{Refusal}
 use Rattle.tapa.specs.Refusals.{numberOf}
 use Rattle.table.specs.declared.Row.{Row}
@@ -18,7 +19,6 @@ use Rattle.rules.specs.View.{View, fresh}
 use Rattle.rules.specs.Apply.{applied}
 use Rattle.rules.specs.declared.Outcome.{Outcome}
 use Rattle.rules.specs.declared.Outcome.the-variants.{Passed, Answered, Swallowed, Event, Turned, Given, Reset, Refused as RefusedStep}
-use Rattle.rules.proofs.Lists.{split, or-no}
 use Rattle.fields.specs.Fields.{Steps, over, broken, then, Script, torn, begins, row-then, scriptOf, fileOf}
 use Rattle.text.specs.Text.{ascii, digitOf, hexOf, hexesOf, wordHexOf, decimals, decimalOf}
 use Rattle.lines.specs.declared.Totals.{Totals}

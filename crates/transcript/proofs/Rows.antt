@@ -1,7 +1,7 @@
 -- The rows: the state before the first line leaves all that the input prescribes, and is lawful. Assumes nothing.
 use Prim.Native.Nat.{ℕ, zero, suc, _+_, _≤_, _<_}
 use mathlib.Core.Path.{_≡_, refl, sym, ap, subst, _∙_}
-use mathlib.Core.Bool.{Bool, false}
+use mathlib.Core.Bool.{Bool}
 use mathlib.Core.List.{List, [], _∷_, _++_, reverse, reverse-append}
 use native.Mathlib.Omega.{arith}
 use lib.Dec.{ltb}
@@ -16,11 +16,12 @@ use Rattle.table.specs.Table.{heldRows, Held, noRows, withRow, rowsRead, judgeT
 use Rattle.table.proofs.Judged.{accepted, judge-reverse}
 use Rattle.table.proofs.Read.{read-held, read-rows, read-next, judge-read}
 use Rattle.rules.specs.View.{fresh}
-use Rattle.rules.proofs.Lists.{split}
+use Rattle.lists.proofs.Tests.{split}
 use Rattle.router.specs.declared.Router.{Router}
 use Rattle.router.specs.declared.Started.{Started}
 use Rattle.router.specs.Start.{freshOver, startWith}
-use Rattle.router.proofs.Starts.{rows-proper, fresh-lawful}
+use Rattle.table.proofs.Read.{rows-proper}
+use Rattle.router.proofs.Starts.{fresh-lawful}
 use Rattle.fields.specs.declared.NextRow.{NextRow}
 use Rattle.fields.specs.declared.NextRow.the-variants.{Row, Torn, Over}
 use Rattle.fields.specs.Fields.{Steps, Script}

@@ -6,13 +6,13 @@ use mathlib.Core.Option.{none}
 use native.Mathlib.Omega.{arith}
 use lib.ListN.{length, drop}
 use Rattle.lists.specs.Lists.{one, count, keep}
+use Rattle.lists.proofs.Tests.{split, differ}
 use Rattle.table.specs.declared.Row.{Row}
 use Rattle.places.specs.declared.Place.{Place}
 use Rattle.places.specs.Places.{isOpen, isOwed}
 use Rattle.rules.specs.View.{fresh}
 use Rattle.rules.specs.declared.Outcome.{Outcome}
 use Rattle.rules.specs.declared.Outcome.the-variants.{Passed, Answered, Swallowed, Event, Turned, Given, Reset, Refused}
-use Rattle.rules.proofs.Lists.{split, differ}
 use Rattle.fields.specs.Fields.{Steps, over, broken, then, brokenStep}
 use Rattle.history.specs.History.{Step, history, viewAfter, total, isPassed, isAnswered, isGiven}
 use Rattle.history.proofs.Totals.{balanced}

@@ -6,6 +6,7 @@ use mathlib.Core.List.{List, [], _∷_}
 use native.Mathlib.Omega.{arith}
 use lib.ListN.{length}
 use Rattle.lists.specs.Lists.{count, someOf}
+use Rattle.lists.proofs.Tests.{split}
 use Rattle.tapa.specs.Address.{handlerOf}
 use Rattle.table.specs.Table.{listed}
 use Rattle.places.specs.Places.{isOpen, isOwed, standsIn}
@@ -13,7 +14,6 @@ use Rattle.rules.specs.View.{View}
 use Rattle.rules.specs.Judge.{judgeReplaced}
 use Rattle.rules.specs.declared.Outcome.{Outcome}
 use Rattle.rules.specs.declared.Outcome.the-variants.{Passed, Answered, Swallowed, Event, Turned, Given, Reset, Refused}
-use Rattle.rules.proofs.Lists.{split}
 use Rattle.router.specs.declared.Router.{Router}
 use Rattle.router.specs.declared.Routed.{Routed}
 use Rattle.router.specs.Router.{viewOf, Lawful, Routing, Replacing}

@@ -2,7 +2,8 @@
 use Prim.Native.Nat.{_-_}
 use mathlib.Core.Path.{refl}
 use lib.ListN.{length}
-use Rattle.joiner.proofs.Laws.{added, prefix}
+use Rattle.lists.proofs.Onto.{prefix}
+use Rattle.joiner.proofs.Laws.{added}
 use borrow.Author.Needs.{needs}
 use Rattle.joiner.proofs.add_piece.Statement.{statement}
 use Rattle.joiner.proofs.add_piece.Tie as tie

@@ -2,9 +2,10 @@
 use mathlib.Core.Path.{_≡_, sym, _∙_}
 use Rattle.lists.specs.Lists.{find}
 use Rattle.lists.specs.declared.Found.the-variants.{At}
+use Rattle.lists.proofs.Numbers.{find-none-without}
 use Rattle.events.specs.Events.{meets, likeOf}
 use Rattle.events.specs.Places.{eventsOf}
-use Rattle.events.proofs.Laws.{stands, none-without}
+use Rattle.events.proofs.Laws.{stands}
 use borrow.Author.Needs.{needs}
 use Rattle.events.proofs.Queue.taken.Statement.{statement}
 use Rattle.events.proofs.Queue.taken.Tie as tie
@@ -26,7 +27,7 @@ without-requires : tie.Need-without-requires
 without-requires c κs = (search needs, stands _ _ 0 _ _ (found (c .before)) .inside)
 
 returns : tie.Need-returns
-returns c = record { events = sym (none-without _ _ (sym (c .before .before .find .ensures) ∙ c .enum-told .given .1)); law = c .before .before .before .pre }
+returns c = record { events = sym (find-none-without _ _ (sym (c .before .before .find .ensures) ∙ c .enum-told .given .1)); law = c .before .before .before .pre }
 
 returns-2 : tie.Need-returns-2
 returns-2 c = rw (stands _ _ 0 _ _ (found (c .before .before)) .rest) (c .without .ensures)

@@ -1,14 +1,15 @@
--- Laws of lists that the history needs: members, and elements that are changed or left out one by one.
+-- Laws of members, and of elements that are changed or left out one by one.
 use Prim.Native.Nat.{_+_, _≤_}
-use mathlib.Core.Path.{_≡_, refl}
+use mathlib.Core.Path.{_≡_, refl, sym, _∙_}
 use mathlib.Core.Logic.{_⊎_, inl, inr}
 use mathlib.Core.Bool.{Bool, true, not, cond}
 use mathlib.Core.List.{List, [], _∷_, _++_}
 use mathlib.Core.Option.{Option, none, some}
 use native.Mathlib.Omega.{arith}
 use lib.ListN.{length}
-use Rattle.lists.specs.Lists.{count, keep, changed, All, In}
-use Rattle.rules.proofs.Lists.{split, count-zero}
+use Rattle.lists.specs.Lists.{count, keep, first, changed, All, In}
+use Rattle.lists.proofs.Tests.{split}
+use Rattle.lists.proofs.Counts.{count-zero}
 
 module _ {A : Type 0} where
   -- ---- members
@@ -45,16 +46,23 @@ module _ {A : Type 0} where
   in-all P x (y ∷ l) a (inl e) = rw e at (a .0)
   in-all P x (y ∷ l) a (inr i) = in-all P x l (a .1) i
 
+  -- what passes is the one that is found first, where no two pass
+  pub only : (q : A → Bool) (l : List A) (x y : A) → count q l ≤ 1 → first q l ≡ some x → In y l → q y ≡ true → y ≡ x
+  only q [] x y c e i p = absurd i
+  only q (z ∷ l) x y c e (inl k) p =
+      let pz : q z ≡ true = rw k p in
+      let m : z ≡ x = (let f : some z ≡ some x = rw pz at e in cc) in sym k ∙ m
+  only q (z ∷ l) x y c e (inr i) p =
+      split (q z)
+      (λ b. let c′ : 1 + count q l ≤ 1 = rw b at c in absurd (omega (arith, in-count q y l p i)))
+      (λ b. only q l x y (omega arith) (rw b at e) i p)
+
   -- ---- lists of one
 
   pub alone : (l : List A) → length l ≡ 1 → (x : A) × (l ≡ x ∷ [])
   alone [] e = absurd (omega arith)
   alone (x ∷ []) e = (x, refl)
   alone (x ∷ y ∷ l) e = absurd (omega arith)
-
-  pub length-keep : (q : A → Bool) (l : List A) → length (keep q l) ≡ count q l
-  length-keep q [] = refl
-  length-keep q (x ∷ l) = split (q x) (λ p. rw p (omega (arith, length-keep q l))) (λ p. rw p (omega (arith, length-keep q l)))
 
   -- ---- each element changed, or left out
 

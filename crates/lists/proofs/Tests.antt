@@ -1,0 +1,61 @@
+-- Laws of tests, and of checks in their order.
+use Prim.Native.Nat.{ℕ}
+use mathlib.Core.Path.{_≡_, refl, sym, _∙_}
+use mathlib.Core.Bool.{Bool, true, false, _||_, _&&_}
+use mathlib.Core.List.{List, [], _∷_, _++_}
+use native.Mathlib.Omega.{arith}
+use lib.Dec.{eqb}
+use borrow.Author.Tests.{eqb-true, eqb-false, eq-eqb, ne-eqb}
+use Rattle.lists.specs.Lists.{checks, All}
+
+-- two answers that meet the same equation are equal: a function whose contract is an equation has no second answer
+pub one-value : {A : Type 0} (a b x : A) → a ≡ x → b ≡ x → a ≡ b
+one-value a b x e f = e ∙ sym f
+
+-- ---- tests
+
+-- a test is true or false, and each branch knows which
+pub split : {P : Type 0} (b : Bool) → (b ≡ true → P) → (b ≡ false → P) → P
+split true f g = f refl
+split false f g = g refl
+
+-- two answers of one test
+pub clash : {P : Type 0} (b : Bool) → b ≡ true → b ≡ false → P
+clash b p q = let z : _≡_ {A = ℕ} 0 1 = cc in absurd (omega arith)
+
+-- two values that differ, as `cc` finds it
+pub differ : {P : Type 0} → _≡_ {A = ℕ} 0 1 → P
+differ e = absurd (omega arith)
+
+pub or-no : (a b : Bool) → (a || b) ≡ false → (a ≡ false) × (b ≡ false)
+or-no true b e = clash true refl e
+or-no false b e = (refl, e)
+
+pub and-yes : (a b : Bool) → (a && b) ≡ true → (a ≡ true) × (b ≡ true)
+and-yes true b e = (refl, e)
+and-yes false b e = clash false e refl
+
+pub or-left : (a b : Bool) → (a || b) ≡ true → b ≡ false → a ≡ true
+or-left true b e n = refl
+or-left false b e n = clash b e n
+
+pub eqb-same : (n : ℕ) → eqb n n ≡ true
+eqb-same n = eq-eqb n n refl
+
+pub eqb-turn : (a b : ℕ) → eqb a b ≡ eqb b a
+eqb-turn a b =
+    split (eqb a b) (λ p. rw (p, eq-eqb b a (sym (eqb-true a b p)))) (λ p. rw (p, ne-eqb b a (λ e. eqb-false a b p (sym e))))
+
+-- ---- checks in their order
+
+module _ {A : Type 0} where
+  -- what holds of every test's outcome, and of the last one where all tests failed, holds of what the checks decide
+  pub checks-are : (P : A → Type 0) (ts : List (Bool × A)) (a : A) → All (λ (t : Bool × A). P (t .1)) ts
+      → (All (λ (t : Bool × A). t .0 ≡ false) ts → P a) → P (checks ts a)
+  checks-are P [] a f g = g tt
+  checks-are P (t ∷ ts) a f g = split (t .0) (λ p. rw p (f .0)) (λ p. rw p (checks-are P ts a (f .1) (λ r. g (p, r))))
+
+  -- a test that fails can be left out, wherever it stands
+  pub checks-skip : (ts us : List (Bool × A)) (b : Bool) (n a : A) → b ≡ false → checks (ts ++ (b, n) ∷ us) a ≡ checks (ts ++ us) a
+  checks-skip [] us b n a p = rw p
+  checks-skip (t ∷ ts) us b n a p = split (t .0) (λ q. rw q) (λ q. rw q (checks-skip ts us b n a p))
