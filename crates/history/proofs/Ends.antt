@@ -1,35 +1,58 @@
 -- Each answered, given or swallowed outcome ends exactly one command, and a reply goes to the one that asked.
-use Prim.Native.Nat.{ℕ, _+_}
+use Prim.Native.Nat.{ℕ, _+_, _≤_}
 use mathlib.Core.Path.{_≡_, refl, sym, ap, _∙_}
-use mathlib.Core.Logic.{inl, inr}
-use mathlib.Core.Bool.{Bool, true, false}
+use mathlib.Core.Logic.{_⊎_, inl, inr}
+use mathlib.Core.Bool.{Bool, true, false, _&&_}
 use mathlib.Core.List.{List, [], _∷_}
 use mathlib.Core.Option.{Option, none, some}
 use native.Mathlib.Omega.{arith}
 use lib.Dec.{eqb}
 use lib.ListN.{length}
 use borrow.Author.Tests.{eqb-true}
-use Rattle.lists.specs.Lists.{one, count, In}
-use Rattle.lists.proofs.Tests.{clash, and-yes}
+use Rattle.lists.specs.Lists.{one, count, someOf, In}
+use Rattle.lists.proofs.Tests.{split, clash, and-yes}
 use Rattle.lists.proofs.Counts.{count-some, length-keep}
 use Rattle.lists.proofs.First.{first-yes, first-meets}
-use Rattle.lists.proofs.Members.{only, put, alone, in-kept, in-all}
+use Rattle.lists.proofs.Members.{only, put, alone, in-kept}
 use Rattle.tapa.specs.Address.{handlerOf}
 use Rattle.table.specs.declared.Row.{Row}
 use Rattle.places.specs.declared.Place.{Place}
-use Rattle.places.specs.Places.{isOpen, isOwed, onThread, owedOn, asksExactly, owesExactly, asks, owedBy, owing}
+use Rattle.places.specs.Places.{isOpen, isOwed, onThread, asksExactly, owesExactly, asks, owedBy, owing}
 use Rattle.rules.specs.View.{View}
 use Rattle.rules.specs.declared.Outcome.{Outcome}
 use Rattle.rules.specs.declared.Outcome.the-variants.{Passed, Answered, Swallowed, Event, Turned, Given, Reset, Refused}
 use Rattle.rules.specs.Judge.{judge}
 use Rattle.rules.specs.Conduct.{Conduct}
-use Rattle.places.proofs.Two.{asks-open, owes-owed}
-use Rattle.rules.proofs.Waits.{exact-on, open-thread}
 use Rattle.rules.proofs.Allowed.{Allowed, Innermost, allowed}
+use Rattle.rules.proofs.Says.{says}
 use Rattle.rules.proofs.After.{exact-once}
-use Rattle.history.specs.History.{Step, Entry, viewAfter, history, Sent, sent, standing, meets, ends, ended, endsOne, Was, Concerns}
+use Rattle.history.specs.History.{Step, Entry, entry, viewAfter, history, Sent, sent, standing, meets, ends, ended, endsWait, endsOne, isSwallowed, isReset, named, Went, Concerns}
+use Rattle.history.proofs.Went.{went}
+use Rattle.history.proofs.Words.{ends-wait, ends-owing, ends-reset, aimed}
 use Rattle.history.proofs.Law.{conduct-after}
-use Rattle.history.proofs.Told.{sent-open, stood, told, open-as, owed-as}
+use Rattle.history.proofs.Told.{stood, told, stands-as}
+
+-- ---- the wait that an outcome ends is the innermost one of its thread, and the owing is there
+
+pub wait-of : (v : View) (o : Outcome) → Allowed v o → endsWait o ≡ true → Innermost v (named o .asker) (named o .asked) (named o .thread)
+wait-of v (Passed asker asked kind t) a e = clash false e refl
+wait-of v (Answered asked asker t k) a e = a
+wait-of v (Swallowed asked t) a e = clash false e refl
+wait-of v Event a e = clash false e refl
+wait-of v (Turned asker asked t k) a e = clash false e refl
+wait-of v (Given asker asked t) a e = a
+wait-of v (Reset h) a e = clash false e refl
+wait-of v (Refused r) a e = clash false e refl
+
+pub owing-of : (v : View) (o : Outcome) → Allowed v o → isSwallowed o ≡ true → someOf (owesExactly (named o .asked) (named o .thread)) (v .places) ≡ true
+owing-of v (Passed asker asked kind t) a e = clash false e refl
+owing-of v (Answered asked asker t k) a e = clash false e refl
+owing-of v (Swallowed asked t) a e = a .0
+owing-of v Event a e = clash false e refl
+owing-of v (Turned asker asked t k) a e = clash false e refl
+owing-of v (Given asker asked t) a e = clash false e refl
+owing-of v (Reset h) a e = clash false e refl
+owing-of v (Refused r) a e = clash false e refl
 
 -- ---- commands that a test picks are as many as the places that it picks
 
@@ -47,25 +70,30 @@ module _ (h : List Entry) (v : View) (c : Conduct v) (k : stood h (sent h) ≡ v
   ended-count o =
       length-keep (λ (d : Sent). meets (ends o) (standing h d)) (sent h) ∙ count-stood h (ends o) (sent h) ∙ ap (count (ends o)) k
 
-  found-one : (asker asked t : ℕ) → Innermost v asker asked t → count (asksExactly asked t) (v .places) ≡ 1
+  pub found-one : (asker asked t : ℕ) → Innermost v asker asked t → count (asksExactly asked t) (v .places) ≡ 1
   found-one asker asked t i =
       let s = first-meets (asksExactly asked t) (asksExactly asked t) (v .places) (i .it) (i .found) (first-yes (asksExactly asked t) (v .places) (i .it) (i .found)) in
       omega (arith, exact-once v c asked t, count-some (asksExactly asked t) (v .places) s)
 
   counted : (o : Outcome) → Allowed v o → endsOne o ≡ true → count (ends o) (v .places) ≡ 1
-  counted (Passed asker asked kind t) a e = clash false e refl
-  counted (Answered asked asker t code) a e = found-one asker asked t a
-  counted (Swallowed asked t) a e = omega (arith, exact-once v c asked t, count-some (owesExactly asked t) (v .places) (a .0))
-  counted Event a e = clash false e refl
-  counted (Turned asker asked t code) a e = clash false e refl
-  counted (Given asker asked t) a e = found-one asker asked t a
-  counted (Reset x) a e = clash false e refl
-  counted (Refused r) a e = clash false e refl
+  counted o a e =
+      let n = named o in
+      split (endsWait o)
+      (λ w. ap (λ (q : Place → Bool). count q (v .places)) (λ i p. ends-wait o p w i) ∙ found-one _ _ _ (wait-of v o a w))
+      (λ w. let s : isSwallowed o ≡ true = rw w at e in
+      let once : count (owesExactly (n .asked) (n .thread)) (v .places) ≡ 1 =
+      omega (arith, exact-once v c (n .asked) (n .thread), count-some (owesExactly (n .asked) (n .thread)) (v .places) (owing-of v o a s)) in
+      ap (λ (q : Place → Bool). count q (v .places)) (λ i p. ends-owing o p s i) ∙ once)
 
   pub one-ended : (o : Outcome) → Allowed v o → endsOne o ≡ true → (d : Sent) × (ended h o ≡ d ∷ [])
   one-ended o a e = alone (ended h o) (ended-count o ∙ counted o a e)
 
 -- ---- whom an outcome concerns
+
+-- a command stands as it was sent, but that it may be owed
+as-sent : (c y : Place) → (y ≡ c) ⊎ (y ≡ owing c) → (c .asker ≡ y .asker) × (c .asked ≡ y .asked) × (c .thread ≡ y .thread)
+as-sent c y (inl e) = rw e (refl, refl, refl)
+as-sent c y (inr e) = rw e (refl, refl, refl)
 
 pub stood-in : (h : List Entry) (cs : List Sent) (d : Sent) (y : Place) → In d cs → standing h d ≡ some y → In y (stood h cs)
 stood-in h [] d y i e = absurd i
@@ -85,54 +113,38 @@ module _ (h : List Entry) (v : View) (c : Conduct v) (k : stood h (sent h) ≡ v
   standing-in : (y : Place) → standing h d ≡ some y → In y (v .places)
   standing-in y e = rw k at (stood-in h (sent h) d y i e)
 
-  of-wait : (asker asked t : ℕ) → Innermost v asker asked t → meets (asksExactly asked t) (standing h d) ≡ true → Was d asker asked t
-  of-wait asker asked t n m =
-      let y = met (asksExactly asked t) (standing h d) m in
-      let w : y .0 ≡ n .it = only (asksExactly asked t) (v .places) (n .it) (y .0) (omega (arith, exact-once v c asked t)) (n .found) (standing-in (y .0) (y .1)) (y .2) in
-      let s : n .it ≡ d .command = sym w ∙ open-as h d (y .0) (y .1) (asks-open asked t (y .0) (y .2)) in
-      let f = first-yes (asksExactly asked t) (v .places) (n .it) (n .found) in record {
-        its-asker = rw (← s) (n .its-asker);
-        its-asked = rw (← s) (n .its-asked);
-        its-thread = rw (← s) (eqb-true (n .it .thread) t (open-thread t (n .it) (exact-on asked t (n .it) f)));
+  pub concerns : (s : Step) (o : Outcome) → Allowed v o → Went (entry s o) → meets (ends o) (standing h d) ≡ true → Concerns (entry s o) d
+  concerns st o a g m =
+      let m′ = met (ends o) (standing h d) m in
+      let y = m′ .0 in
+      let s = as-sent (d .command) y (stands-as h d y (m′ .1)) in record {
+        its-reply = λ w.
+            let n = wait-of v o a w in
+            let k : y ≡ n .it = only (asksExactly _ _) (v .places) (n .it) y (omega (arith, exact-once v c (named o .asked) (named o .thread))) (n .found) (standing-in y (m′ .1)) (rw (ends-wait o y w) at (m′ .2)) in
+            let r = g .reply (rw w) in record {
+              head = r .head;
+              read = r .read;
+              to-asker = r .to-asker ∙ sym (s .0 ∙ ap (λ (p : Place). p .asker) k ∙ n .its-asker);
+              from-asked = r .from-asked ∙ sym (s .1 ∙ aimed o y (rw w) (m′ .2) .0);
+              kind = r .kind;
+              on-thread = r .on-thread ∙ sym (s .2 ∙ aimed o y (rw w) (m′ .2) .1);
+              with-code = r .with-code;
+            };
+        its-asked = λ e. s .1 ∙ aimed o y e (m′ .2) .0;
+        its-thread = λ e. s .2 ∙ aimed o y e (m′ .2) .1;
+        its-handler = λ r. ap handlerOf (s .1) ∙ eqb-true (handlerOf (y .asked)) (named o .asked) (and-yes (isOwed y) (asks (named o .asked) y) (rw (ends-reset o y r) at (m′ .2)) .1);
       }
-
-  of-owing : (asked t : ℕ) → meets (owesExactly asked t) (standing h d) ≡ true → Was d (d .command .asker) asked t
-  of-owing asked t m =
-      let y = met (owesExactly asked t) (standing h d) m in
-      let s : y .0 ≡ owing (d .command) = owed-as h d (y .0) (y .1) (in-all (λ (x : Sent). isOpen (x .command) ≡ true) d (sent h) (sent-open h) i) (owes-owed asked t (y .0) (y .2)) in
-      let p = and-yes (owedOn t (y .0)) (eqb (y .0 .asked) asked) (y .2) in record {
-        its-asker = refl;
-        its-asked = eqb-true (d .command .asked) asked (rw s at (p .1));
-        its-thread = eqb-true (d .command .thread) t (rw s at (and-yes (isOwed (y .0)) (onThread t (y .0)) (p .0) .1));
-      }
-
-  of-debt : (a : ℕ) → meets (owedBy a) (standing h d) ≡ true → handlerOf (d .command .asked) ≡ a
-  of-debt a m =
-      let y = met (owedBy a) (standing h d) m in
-      let p = and-yes (isOwed (y .0)) (asks a (y .0)) (y .2) in
-      let s : y .0 ≡ owing (d .command) = owed-as h d (y .0) (y .1) (in-all (λ (x : Sent). isOpen (x .command) ≡ true) d (sent h) (sent-open h) i) (p .0) in
-      eqb-true (handlerOf (d .command .asked)) a (rw s at (p .1))
-
-  pub concerns : (o : Outcome) → Allowed v o → meets (ends o) (standing h d) ≡ true → Concerns o d
-  concerns (Passed asker asked kind t) a m = tt
-  concerns (Answered asked asker t code) a m = of-wait asker asked t a m
-  concerns (Swallowed asked t) a m = of-owing asked t m
-  concerns Event a m = tt
-  concerns (Turned asker asked t code) a m = tt
-  concerns (Given asker asked t) a m = of-wait asker asked t a m
-  concerns (Reset x) a m = of-debt x m
-  concerns (Refused r) a m = tt
 
 -- ---- after any steps from any table
 
 pub ends-its-own : (rows : List Row) (steps : List Step) (s : Step) (d : Sent) → In d (ended (history rows steps) (judge (viewAfter rows steps) (s .room) (s .call)))
-    → Concerns (judge (viewAfter rows steps) (s .room) (s .call)) d
+    → Concerns (entry s (judge (viewAfter rows steps) (s .room) (s .call))) d
 ends-its-own rows steps s d i =
     let v = viewAfter rows steps in
     let h = history rows steps in
     let o = judge v (s .room) (s .call) in
     let p = in-kept (λ (x : Sent). meets (ends o) (standing h x)) d (sent h) i in
-    concerns h v (conduct-after rows steps) (told rows steps) d (p .0) o (allowed v (s .room) (s .call)) (p .1)
+    concerns h v (conduct-after rows steps) (told rows steps) d (p .0) s o (allowed v (s .room) (s .call)) (went s o (says v (s .room) (s .call))) (p .1)
 
 -- the next outcome, if it is answered, given or swallowed, ends exactly one command
 pub ends-exactly-one : (rows : List Row) (steps : List Step) (s : Step) → endsOne (judge (viewAfter rows steps) (s .room) (s .call)) ≡ true

@@ -5,6 +5,7 @@ use mathlib.Core.Logic.{inl, inr}
 use mathlib.Core.Bool.{true, false, cond}
 use mathlib.Core.List.{List, [], _∷_, map}
 use lib.Dec.{eqb}
+use Rattle.lists.proofs.Tests.{clash}
 use Rattle.tapa.specs.Address.{categoryOf, handlerOf, multi}
 use Rattle.tapa.specs.Types.{own, common}
 use Rattle.message.specs.Message.{readOf, partOf, codeOf}
@@ -12,7 +13,6 @@ use Rattle.table.specs.declared.Row.{Row}
 use Rattle.rules.specs.declared.Outcome.the-variants.{Passed, Answered, Swallowed, Given, Reset}
 use Rattle.rules.specs.Judge.{Call, message, giveUp, replaced, late, reply, judgeResponse, busy, judgeCommand, judgeKind, judgeRead, judgeMessage, yields, judgeGiveUp, judgeReplaced}
 use Rattle.rules.specs.Apply.{place, reopened}
-use Rattle.lists.proofs.Tests.{clash}
 use Rattle.rules.proofs.Sums.{rows, first-call, second-call, third-call, fourth-call}
 use Rattle.history.specs.History.{Step, Entry, history, openIn, owedIn, isPassed, isAnswered, isGiven, total}
 use Rattle.history.specs.Marks.{Honest, Bears}

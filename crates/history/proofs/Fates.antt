@@ -3,62 +3,74 @@
 use Prim.Native.Nat.{_+_, _≤_, _<_}
 use mathlib.Core.Path.{_≡_, refl, sym, ap, _∙_}
 use mathlib.Core.Logic.{inl, inr}
-use mathlib.Core.Bool.{Bool, true, false, _&&_}
+use mathlib.Core.Bool.{Bool, true, false, _&&_, cond}
 use mathlib.Core.List.{List, [], _∷_}
 use mathlib.Core.Option.{Option, none, some}
 use native.Mathlib.Omega.{arith}
 use lib.ListN.{length}
 use borrow.Author.Tests.{not-true, eq-eqb}
 use Rattle.lists.specs.Lists.{one, In}
-use Rattle.lists.proofs.Tests.{split, and-yes}
-use Rattle.lists.proofs.Members.{in-either, in-all}
+use Rattle.lists.proofs.Tests.{split, clash, and-yes}
+use Rattle.lists.proofs.Members.{in-either, in-one, in-all}
 use Rattle.places.specs.declared.Place.{Place}
-use Rattle.places.specs.Places.{isOpen, isOwed, asksExactly, owesExactly, asks, owedBy}
+use Rattle.places.specs.Places.{isOpen, isOwed, asks, owing}
 use Rattle.rules.specs.declared.Outcome.{Outcome}
 use Rattle.rules.specs.declared.Outcome.the-variants.{Passed, Answered, Swallowed, Event, Turned, Given, Reset, Refused}
+use Rattle.rules.specs.Apply.{place}
 use Rattle.places.proofs.Two.{asks-open, owes-owed}
-use Rattle.history.specs.History.{Entry, Sent, starts, sent, lives, livesOn, standing, meets, ends, isAnswered, isGiven, isSwallowed, isReset, timesEnded, Fate}
+use Rattle.history.specs.History.{Entry, Sent, starts, sent, lives, livesOn, standing, meets, ends, isPassed, isAnswered, isGiven, isSwallowed, isReset, named, timesEnded, Fate}
 use Rattle.history.proofs.Told.{sent-before, older, unsent}
 
 -- ---- one outcome
 
--- a wait goes on, or is answered, or is given up
-wait-goes : (o : Outcome) (p : Place)
-    → one (meets isOpen (lives o p)) + (one (isAnswered o && ends o p) + one (isGiven o && ends o p)) ≡ one (isOpen p)
-wait-goes (Passed asker asked kind t) p = omega arith
-wait-goes (Answered asked asker t k) p =
-    split (asksExactly asked t p) (λ b. rw (b, asks-open asked t p b) (omega arith)) (λ b. rw b (omega arith))
-wait-goes (Swallowed asked t) p =
-    split (owesExactly asked t p) (λ b. let n : isOpen p ≡ false = rw (owes-owed asked t p b) in rw (b, n) (omega arith)) (λ b. rw b (omega arith))
-wait-goes Event p = omega arith
-wait-goes (Turned asker asked t k) p = omega arith
-wait-goes (Given asker asked t) p =
-    split (asksExactly asked t p) (λ b. rw (b, asks-open asked t p b) (omega arith)) (λ b. rw b (omega arith))
-wait-goes (Reset h) p =
-    split (owedBy h p) (λ b. let n : isOpen p ≡ false = rw (and-yes (isOwed p) (asks h p) b .0) in rw (b, n) (omega arith)) (λ b. rw b (omega arith))
-wait-goes (Refused r) p = omega arith
+is-open : (p : Place) → isOpen p ≡ true → (1 ≡ one (isOpen p)) × (0 ≡ one (isOwed p))
+is-open p e = let n : isOwed p ≡ false = not-true (isOwed p) e in rw n (refl, refl)
 
--- an owing begins, goes on, or is ended
-owing-goes : (o : Outcome) (p : Place)
-    → one (meets isOwed (lives o p)) + (one (isSwallowed o && ends o p) + one (isReset o && ends o p)) ≡ one (isOwed p) + one (isGiven o && ends o p)
-owing-goes (Passed asker asked kind t) p = omega arith
-owing-goes (Answered asked asker t k) p =
-    split (asksExactly asked t p) (λ b. let n : isOwed p ≡ false = not-true (isOwed p) (asks-open asked t p b) in rw (b, n) (omega arith)) (λ b. rw b (omega arith))
-owing-goes (Swallowed asked t) p =
-    split (owesExactly asked t p) (λ b. rw (b, owes-owed asked t p b) (omega arith)) (λ b. rw b (omega arith))
-owing-goes Event p = omega arith
-owing-goes (Turned asker asked t k) p = omega arith
-owing-goes (Given asker asked t) p =
-    split (asksExactly asked t p) (λ b. let n : isOwed p ≡ false = not-true (isOwed p) (asks-open asked t p b) in rw (b, n) (omega arith)) (λ b. rw b (omega arith))
-owing-goes (Reset h) p =
-    split (owedBy h p) (λ b. rw (b, and-yes (isOwed p) (asks h p) b .0) (omega arith)) (λ b. rw b (omega arith))
-owing-goes (Refused r) p = omega arith
+is-owed : (p : Place) → isOwed p ≡ true → (0 ≡ one (isOpen p)) × (1 ≡ one (isOwed p))
+is-owed p e = rw e (refl, refl)
 
--- ---- a history
+-- what is ended by a response to the asker was open; what is ended otherwise was owed
+pub was : (o : Outcome) (p : Place) → ends o p ≡ true
+    → (one (isAnswered o) + one (isGiven o) ≡ one (isOpen p)) × (one (isSwallowed o) + one (isReset o) ≡ one (isOwed p))
+was (Passed asker asked kind t) p e = clash false e refl
+was (Answered asked asker t k) p e = is-open p (asks-open asked t p e)
+was (Swallowed asked t) p e = is-owed p (owes-owed asked t p e)
+was Event p e = clash false e refl
+was (Turned asker asked t k) p e = clash false e refl
+was (Given asker asked t) p e = is-open p (asks-open asked t p e)
+was (Reset h) p e = is-owed p (and-yes (isOwed p) (asks h p) e .0)
+was (Refused r) p e = clash false e refl
 
 and-no : (b : Bool) → one (b && false) ≡ 0
 and-no true = refl
 and-no false = refl
+
+and-one : (b : Bool) → one (b && true) ≡ one b
+and-one true = refl
+and-one false = refl
+
+-- given up, it is owed; else it is done with
+owes-on : (g : Bool) (p : Place)
+    → (one (meets isOpen (cond g (some (owing p)) none)) ≡ 0) × (one (meets isOwed (cond g (some (owing p)) none)) ≡ one g)
+owes-on true p = (refl, refl)
+owes-on false p = (refl, refl)
+
+module _ (o : Outcome) (p : Place) where
+  -- a wait goes on, or is answered, or is given up
+  wait-goes : one (meets isOpen (lives o p)) + (one (isAnswered o && ends o p) + one (isGiven o && ends o p)) ≡ one (isOpen p)
+  wait-goes =
+      split (ends o p)
+      (λ e. rw e (omega (arith, was o p e .0, owes-on (isGiven o) p .0, and-one (isAnswered o), and-one (isGiven o))))
+      (λ e. rw e (omega (arith, and-no (isAnswered o), and-no (isGiven o))))
+
+  -- an owing begins, goes on, or is ended
+  owing-goes : one (meets isOwed (lives o p)) + (one (isSwallowed o && ends o p) + one (isReset o && ends o p)) ≡ one (isOwed p) + one (isGiven o && ends o p)
+  owing-goes =
+      split (ends o p)
+      (λ e. rw e (omega (arith, was o p e .1, owes-on (isGiven o) p .1, and-one (isSwallowed o), and-one (isReset o), and-one (isGiven o))))
+      (λ e. rw e (omega (arith, and-no (isSwallowed o), and-no (isReset o), and-no (isGiven o))))
+
+-- ---- a history
 
 -- nothing has ended a command that is not yet passed, nor does its own entry
 none-yet : (q : Outcome → Bool) (h : List Entry) (c : Sent) → length h ≤ c .no + 1 → timesEnded q h c ≡ 0
@@ -67,13 +79,16 @@ none-yet q (e ∷ h) c k = rw (unsent h c (omega arith)) (omega (arith, and-no (
 
 -- the entry of the command itself
 newest : (e : Entry) (h : List Entry) (c : Sent) → In c (starts (length h) (e .outcome)) → Fate (e ∷ h) c
-newest e h c i = go (e .outcome) i refl
+newest e h c i = split (isPassed (e .outcome)) (λ p. go (in-one c _ (rw p at i))) (λ p. absurd (rw p at i))
   where
     new : (q : Outcome → Bool) → c .no ≡ length h → timesEnded q (e ∷ h) c ≡ 0
     new q n = none-yet q (e ∷ h) c (omega arith)
 
-    go : (o : Outcome) → In c (starts (length h) o) → e .outcome ≡ o → Fate (e ∷ h) c
-    go (Passed asker asked kind t) (inl k) s =
+    go : record {
+      no = length h;
+      command = place (named (e .outcome) .asker) (named (e .outcome) .asked) (named (e .outcome) .kind) (named (e .outcome) .thread);
+    } ≡ c → Fate (e ∷ h) c
+    go k =
         let n : c .no ≡ length h = ap (λ (x : Sent). x .no) (sym k) in
         let opened : isOpen (c .command) ≡ true = ap (λ (x : Sent). isOpen (x .command)) (sym k) in
         let shut : isOwed (c .command) ≡ false = ap (λ (x : Sent). isOwed (x .command)) (sym k) in
@@ -84,14 +99,6 @@ newest e h c i = go (e .outcome) i refl
           open-or-ended = omega (arith, is-open, new isAnswered n, new isGiven n);
           owed-or-ended = omega (arith, not-owed, new isSwallowed n, new isReset n, new isGiven n);
         }
-    go (Passed asker asked kind t) (inr j) s = absurd j
-    go (Answered asked asker t k) j s = absurd j
-    go (Swallowed asked t) j s = absurd j
-    go Event j s = absurd j
-    go (Turned asker asked t k) j s = absurd j
-    go (Given asker asked t) j s = absurd j
-    go (Reset a) j s = absurd j
-    go (Refused r) j s = absurd j
 
 -- an entry after it
 goes-on : (e : Entry) (h : List Entry) (c : Sent) → c .no < length h → Fate h c → Fate (e ∷ h) c

@@ -1,10 +1,11 @@
 pub mod Law
 pub mod Told
 pub mod Bound
+pub mod Words
+pub mod Went
 pub mod Ends
 pub mod Fates
 pub mod Totals
 pub mod Marks
 pub mod Promise
-pub mod Used
 pub mod Example

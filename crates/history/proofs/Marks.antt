@@ -2,33 +2,33 @@
 use Prim.Native.Nat.{ℕ, _≤_, _<_}
 use mathlib.Core.Path.{_≡_, refl, sym, ap, _∙_}
 use mathlib.Core.Logic.{inl, inr}
-use mathlib.Core.Bool.{Bool, true, false, or-true}
+use mathlib.Core.Bool.{Bool, true, false, _&&_, _||_, or-true}
 use mathlib.Core.List.{List, [], _∷_}
 use mathlib.Core.Option.{some}
 use native.Mathlib.Omega.{arith}
-use lib.Dec.{eqb}
+use lib.Dec.{eqb, ltb}
 use lib.ListN.{length}
 use borrow.Author.Tests.{eq-eqb, lt-ltb}
-use Rattle.lists.specs.Lists.{count, In}
-use Rattle.lists.proofs.Tests.{split, clash, and-yes}
+use Rattle.lists.specs.Lists.{one, count, In}
+use Rattle.lists.proofs.Tests.{split, clash, or-no, and-yes}
 use Rattle.lists.proofs.Counts.{count-some}
-use Rattle.lists.proofs.First.{first-yes, first-meets}
 use Rattle.lists.proofs.Members.{in-either, in-keep, in-count, in-one, in-all}
 use Rattle.table.specs.declared.Row.{Row}
 use Rattle.places.specs.declared.Place.{Place}
-use Rattle.places.specs.Places.{isOwed, onThread, asksExactly, owesExactly, asks, owedBy, owing}
+use Rattle.places.specs.Places.{isOpen, isOwed, onThread, asksExactly, owesExactly, asks, owing}
 use Rattle.rules.specs.View.{View}
 use Rattle.rules.specs.declared.Outcome.{Outcome}
-use Rattle.rules.specs.declared.Outcome.the-variants.{Passed, Answered, Swallowed, Event, Turned, Given, Reset, Refused}
 use Rattle.rules.specs.Judge.{judge}
 use Rattle.rules.specs.Conduct.{Conduct}
 use Rattle.rules.proofs.Allowed.{Allowed, allowed}
 use Rattle.rules.proofs.After.{exact-once}
-use Rattle.history.specs.History.{Step, Entry, viewAfter, history, Sent, starts, sent, lives, livesOn, standing, meets, ends, ended, endsOne}
-use Rattle.history.specs.Marks.{addressed, isReply, fits, replacedSince, used, Marked, Honest, Bears}
+use Rattle.history.specs.History.{Step, Entry, entry, viewAfter, history, isPassed, isAnswered, isGiven, isSwallowed, isReset, endsWait, endsOne, named, Sent, starts, sent, lives, livesOn, standing, meets, ends, ended}
+use Rattle.history.specs.Marks.{addressed, isReply, fits, replaces, replacedSince, used, Marked, Honest, Bears}
 use Rattle.history.proofs.Law.{conduct-after}
 use Rattle.history.proofs.Told.{sent-before, older, stood, told, stands-as}
-use Rattle.history.proofs.Ends.{one-ended, stood-in}
+use Rattle.history.proofs.Ends.{wait-of, owing-of, found-one, one-ended, stood-in}
+use Rattle.history.proofs.Words.{ends-wait, ends-owing, ends-reset}
+use Rattle.history.proofs.Fates.{was}
 
 -- ---- the mark's address is that of the wait or of the owing
 
@@ -41,6 +41,21 @@ open-exactly a t y p n = let z = and-yes (eqb (y .asked) a) (onThread t y) p in 
 
 owed-exactly : (a t : ℕ) (y : Place) → addressed a t y ≡ true → isOwed y ≡ true → owesExactly a t y ≡ true
 owed-exactly a t y p n = let z = and-yes (eqb (y .asked) a) (onThread t y) p in rw (n, z .0, z .1)
+
+reply-ends : (a g s : Bool) → (a || s) ≡ true → ((a || g) || s) ≡ true
+reply-ends true g s e = refl
+reply-ends false true s e = refl
+reply-ends false false s e = e
+
+-- what is ended by no give up and by no reply is ended by a replaced call
+ended-else : (o : Outcome) (y : Place) → ends o y ≡ true → isGiven o ≡ false → isReply o ≡ false → isReset o ≡ true
+ended-else o y e g z =
+    let n = or-no (isAnswered o) (isSwallowed o) z in
+    split (isReset o) (λ r. r)
+    (λ r. let w = was o y e in
+    let x : 0 ≡ one (isOpen y) = rw (n .0, g) at (w .0) in
+    let u : 0 ≡ one (isOwed y) = rw (n .1, r) at (w .1) in
+    split (isOwed y) (λ b. absurd (omega (arith, rw b at u))) (λ b. absurd (omega (arith, rw b at x))))
 
 module _ (mark : ℕ → ℕ) where
   -- where a passed command has come to
@@ -67,25 +82,28 @@ module _ (mark : ℕ → ℕ) where
     -- the command that the mark names is open or owed, and it is what the response ends
     bears-it : (o : Outcome) → Allowed v o → isReply o ≡ true → (c : Sent) (y : Place) → In c (sent h) → standing h c ≡ some y → fits o (c .command) ≡ true
         → ended h o ≡ c ∷ []
-    bears-it (Passed asker asked kind t) a z c y i e f = clash false z refl
-    bears-it (Answered asked asker t code) a z c y i e f =
-        let p = stands-addressed h c asked t y e f in
-        let x = first-yes (asksExactly asked t) (v .places) (a .it) (a .found) in
-        let s = count-some (asksExactly asked t) (v .places) (first-meets (asksExactly asked t) (asksExactly asked t) (v .places) (a .it) (a .found) x) in
+    bears-it o a z c y i e f =
+        let n = named o in
+        let p = stands-addressed h c (n .asked) (n .thread) y e f in
+        let r = reply-ends (isAnswered o) (isGiven o) (isSwallowed o) z in
+        split (endsWait o)
+        (λ w. split (isOwed y)
+        (λ b. absurd (omega (
+          arith,
+          exact-once v l (n .asked) (n .thread),
+          counts (owesExactly (n .asked) (n .thread)) c y i e (owed-exactly (n .asked) (n .thread) y p b),
+          found-one h v l k _ _ _ (wait-of v o a w),
+        )))
+        (λ b. ended-is o a r c y i e (rw (ends-wait o y w) (open-exactly (n .asked) (n .thread) y p b))))
+        (λ w. let s : isSwallowed o ≡ true = rw w at r in
         split (isOwed y)
-        (λ b. absurd (omega (arith, exact-once v l asked t, s, counts (owesExactly asked t) c y i e (owed-exactly asked t y p b))))
-        (λ b. ended-is (Answered asked asker t code) a refl c y i e (open-exactly asked t y p b))
-    bears-it (Swallowed asked t) a z c y i e f =
-        let p = stands-addressed h c asked t y e f in
-        let s = count-some (owesExactly asked t) (v .places) (a .0) in
-        split (isOwed y)
-        (λ b. ended-is (Swallowed asked t) a refl c y i e (owed-exactly asked t y p b))
-        (λ b. absurd (omega (arith, exact-once v l asked t, s, counts (asksExactly asked t) c y i e (open-exactly asked t y p b))))
-    bears-it Event a z c y i e f = clash false z refl
-    bears-it (Turned asker asked t code) a z c y i e f = clash false z refl
-    bears-it (Given asker asked t) a z c y i e f = clash false z refl
-    bears-it (Reset x) a z c y i e f = clash false z refl
-    bears-it (Refused r) a z c y i e f = clash false z refl
+        (λ b. ended-is o a r c y i e (rw (ends-owing o y s) (owed-exactly (n .asked) (n .thread) y p b)))
+        (λ b. absurd (omega (
+          arith,
+          exact-once v l (n .asked) (n .thread),
+          counts (asksExactly (n .asked) (n .thread)) c y i e (open-exactly (n .asked) (n .thread) y p b),
+          count-some (owesExactly (n .asked) (n .thread)) (v .places) (owing-of v o a s),
+        ))))
 
     bears : (o : Outcome) → Allowed v o → Every h → (isReply o ≡ true → Marked mark h o) → Bears mark h o
     bears o a st m z = go (m z) (st (m z .of-it) (m z .passed-before))
@@ -99,7 +117,7 @@ module _ (mark : ℕ → ℕ) where
 
     module _ (s : Step) (c : Sent) (i : In c (sent h)) where
       abbrev on : Outcome → List Entry
-      on o = record { step = s; outcome = o } ∷ h
+      on o = entry s o ∷ h
 
       number : c .no < length h
       number = in-all (λ (x : Sent). x .no < length h) c (sent h) (sent-before h) i
@@ -114,50 +132,36 @@ module _ (mark : ℕ → ℕ) where
           rw (z, eq-eqb (mark (length h)) (c .no) n)
 
       module _ (y : Place) (e : standing h c ≡ some y) where
-        stays : (o : Outcome) → lives o y ≡ some y → Status (on o) c
-        stays o q = under-way y (older record { step = s; outcome = o } h c number ∙ ap (livesOn o) e ∙ q)
-
-        owed-on : (asker asked t : ℕ) → asksExactly asked t y ≡ true → Status (on (Given asker asked t)) c
-        owed-on asker asked t p =
-            under-way (owing y) (older record { step = s; outcome = Given asker asked t } h c number ∙ ap (livesOn (Given asker asked t)) e ∙ rw p)
+        stands : (o : Outcome) (z : Place) → lives o y ≡ some z → Status (on o) c
+        stands o z q = under-way z (older (entry s o) h c number ∙ ap (livesOn o) e ∙ q)
 
         same-asked : (a : ℕ) → asks a y ≡ true → asks a (c .command) ≡ true
         same-asked a p = elim (stands-as h c y e) [ inl q ↦ rw (← q) p | inr q ↦ ap (asks a) (sym q) ∙ p ]
 
         goes : (o : Outcome) → Allowed v o → Bears mark h o → Status (on o) c
-        goes (Passed asker asked kind t) a b = stays (Passed asker asked kind t) refl
-        goes (Answered asked asker t code) a b =
-            let o : Outcome = Answered asked asker t code in
-            split (asksExactly asked t y) (λ p. replied (reply-used o b refl (ended-is o a refl c y i e p))) (λ p. stays o (rw p))
-        goes (Swallowed asked t) a b =
-            let o : Outcome = Swallowed asked t in
-            split (owesExactly asked t y) (λ p. replied (reply-used o b refl (ended-is o a refl c y i e p))) (λ p. stays o (rw p))
-        goes Event a b = stays Event refl
-        goes (Turned asker asked t code) a b = stays (Turned asker asked t code) refl
-        goes (Given asker asked t) a b = split (asksExactly asked t y) (owed-on asker asked t) (λ p. stays (Given asker asked t) (rw p))
-        goes (Reset x) a b =
-            split (owedBy x y) (λ p. gone (rw (lt-ltb (c .no) (length h) number, same-asked x (and-yes (isOwed y) (asks x y) p .1)))) (λ p. stays (Reset x) (rw p))
-        goes (Refused r) a b = stays (Refused r) refl
+        goes o a b =
+            split (ends o y)
+            (λ p. split (isGiven o)
+            (λ g. stands o (owing y) (rw (p, g)))
+            (λ g. split (isReply o)
+            (λ z. replied (reply-used o b z (ended-is o a (reply-ends (isAnswered o) (isGiven o) (isSwallowed o) z) c y i e p)))
+            (λ z. let r = ended-else o y p g z in
+            gone (rw (lt-ltb (c .no) (length h) number, r, same-asked (named o .asked) (and-yes (isOwed y) (asks (named o .asked) y) (rw (ends-reset o y r) at p) .1))))))
+            (λ p. stands o y (rw p))
 
       next-status : (o : Outcome) → Allowed v o → Bears mark h o → Status h c → Status (on o) c
       next-status o a b (under-way y e) = goes y e o a b
-      next-status o a b (replied u) = replied (rw (u, or-true))
-      next-status o a b (gone r) = gone (rw (r, or-true))
+      next-status o a b (replied u) = replied (rw u (or-true (isReply o && eqb (mark (length h)) (c .no))))
+      next-status o a b (gone r) = gone (rw r (or-true (ltb (c .no) (length h) && replaces o (c .command))))
 
     -- a command of the entry itself
-    new-status : (s : Step) (o : Outcome) (c : Sent) → In c (starts (length h) o) → Status (record { step = s; outcome = o } ∷ h) c
-    new-status s (Passed asker asked kind t) c (inl q) =
-        under-way (c .command) (rw (eq-eqb (c .no) (length h) (ap (λ (x : Sent). x .no) (sym q))))
-    new-status s (Passed asker asked kind t) c (inr j) = absurd j
-    new-status s (Answered asked asker t code) c j = absurd j
-    new-status s (Swallowed asked t) c j = absurd j
-    new-status s Event c j = absurd j
-    new-status s (Turned asker asked t code) c j = absurd j
-    new-status s (Given asker asked t) c j = absurd j
-    new-status s (Reset x) c j = absurd j
-    new-status s (Refused r) c j = absurd j
+    new-status : (s : Step) (o : Outcome) (c : Sent) → In c (starts (length h) o) → Status (entry s o ∷ h) c
+    new-status s o c j =
+        split (isPassed o)
+        (λ p. under-way (c .command) (rw (eq-eqb (c .no) (length h) (ap (λ (x : Sent). x .no) (sym (in-one c _ (rw p at j)))))))
+        (λ p. absurd (rw p at j))
 
-    every-next : (s : Step) (o : Outcome) → Allowed v o → Bears mark h o → Every h → Every (record { step = s; outcome = o } ∷ h)
+    every-next : (s : Step) (o : Outcome) → Allowed v o → Bears mark h o → Every h → Every (entry s o ∷ h)
     every-next s o a b st c i =
         elim (in-either c (starts (length h) o) (sent h) i) [ inl j ↦ new-status s o c j | inr j ↦ next-status s c j o a b (st c j) ]
 

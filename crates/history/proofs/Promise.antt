@@ -2,14 +2,17 @@
 use Prim.Native.Nat.{ℕ}
 use mathlib.Core.Path.{_≡_, refl, sym, ap, _∙_}
 use mathlib.Core.List.{List, [], _∷_}
+use Rattle.lists.specs.Lists.{All}
 use Rattle.table.specs.declared.Row.{Row}
 use Rattle.table.specs.Table.{Proper}
 use Rattle.rules.specs.View.{View}
 use Rattle.rules.specs.Judge.{judge}
+use Rattle.rules.proofs.Says.{says}
 use Rattle.rules.proofs.Words.{worded}
-use Rattle.history.specs.History.{Step, Entry, viewAfter, history}
+use Rattle.history.specs.History.{Step, Entry, viewAfter, history, Went}
 use Rattle.history.specs.Marks.{Honest}
 use Rattle.history.specs.Promise.{Ran, begun, going, EachEndsOne, EachConcerns, EachBears, Promise, Bounded}
+use Rattle.history.proofs.Went.{went}
 use Rattle.history.proofs.Law.{conduct-after, says-after}
 use Rattle.history.proofs.Bound.{bounded-after}
 use Rattle.history.proofs.Told.{waits-told, owings-told}
@@ -26,6 +29,10 @@ each-concerns : (rows : List Row) (steps : List Step) → EachConcerns (history 
 each-concerns rows [] = tt
 each-concerns rows (s ∷ steps) = (ends-its-own rows steps s, each-concerns rows steps)
 
+each-went : (rows : List Row) (steps : List Step) → All Went (history rows steps)
+each-went rows [] = tt
+each-went rows (s ∷ steps) = let v = viewAfter rows steps in (went s (judge v (s .room) (s .call)) (says v (s .room) (s .call)), each-went rows steps)
+
 each-bears : (mark : ℕ → ℕ) (rows : List Row) (steps : List Step) → Honest mark (history rows steps) → EachBears mark (history rows steps)
 each-bears mark rows [] m = tt
 each-bears mark rows (s ∷ steps) m = (marks mark rows steps s m, each-bears mark rows steps (m .1))
@@ -40,6 +47,7 @@ promise rows steps = record {
   fates = fate (history rows steps);
   ends-one = each-ends-one rows steps;
   to-asker = each-concerns rows steps;
+  went = each-went rows steps;
   bytes = says-after rows steps;
   balance = balanced rows steps;
 }
@@ -54,10 +62,10 @@ pub record Same (rows : List Row) (h : List Entry) (v : View) : Type 0 where
 
 pub same : (rows : List Row) {h : List Entry} {v : View} → Ran rows h v → Same rows h v
 same rows (begun v e) = record { steps = []; entries = refl; view = sym e }
-same rows (going g v r s o w e f) =
+same rows (going g v r s o b w e k f) =
     let i = same rows r in
     let q : judge (viewAfter rows (i .steps)) (s .room) (s .call) ≡ o = ap (λ (x : View). judge x (s .room) (s .call)) (i .view) ∙ sym e in
-    record { steps = s ∷ i .steps; entries = rw (q, i .entries); view = rw (q, i .view) (sym f) }
+    record { steps = s ∷ i .steps; entries = rw (q, k, i .entries); view = rw (q, i .view) (sym f) }
 
 pub promise-ran : (rows : List Row) {h : List Entry} {v : View} → Ran rows h v → Promise h v
 promise-ran rows r = let i = same rows r in rw (i .entries, i .view) at (promise rows (i .steps))

@@ -24,7 +24,7 @@ use Rattle.rules.specs.Judge.{judge}
 use Rattle.rules.specs.Apply.{place, placesAfter}
 use Rattle.rules.specs.Conduct.{Conduct}
 use Rattle.rules.proofs.After.{exact-once}
-use Rattle.history.specs.History.{Step, Entry, viewAfter, history, Sent, starts, sent, lives, livesOn, standing, meets, openIn, owedIn, commands, debts}
+use Rattle.history.specs.History.{Step, Entry, entry, viewAfter, history, isPassed, isGiven, named, Sent, starts, sent, ends, lives, livesOn, standing, meets, openIn, owedIn, commands, debts}
 use Rattle.history.proofs.Law.{conduct-after}
 
 -- ---- the numbers of the commands
@@ -37,14 +37,7 @@ later n l a = All-map (Before n) (Before (suc n)) (λ c k. omega arith) l a
 
 starts-then : (P : Sent → Type 0) (n : ℕ) (o : Outcome) (l : List Sent)
     → ((asker asked kind t : ℕ) → P record { no = n; command = place asker asked kind t }) → All P l → All P (starts n o ++ l)
-starts-then P n (Passed asker asked kind t) l f a = (f asker asked kind t, a)
-starts-then P n (Answered asked asker t k) l f a = a
-starts-then P n (Swallowed asked t) l f a = a
-starts-then P n Event l f a = a
-starts-then P n (Turned asker asked t k) l f a = a
-starts-then P n (Given asker asked t) l f a = a
-starts-then P n (Reset h) l f a = a
-starts-then P n (Refused r) l f a = a
+starts-then P n o l f a = split (isPassed o) (λ p. rw p (f (named o .asker) (named o .asked) (named o .kind) (named o .thread), a)) (λ p. rw p a)
 
 pub sent-before : (h : List Entry) → All (Before (length h)) (sent h)
 sent-before [] = tt
@@ -88,17 +81,7 @@ stood-moves e h (c ∷ cs) a =
 
 starting : (e : Entry) (h : List Entry) (ps : List Place) → stood (e ∷ h) (sent h) ≡ ps
     → stood (e ∷ h) (sent (e ∷ h)) ≡ stood (e ∷ h) (starts (length h) (e .outcome)) ++ ps
-starting e h ps k = go (e .outcome)
-  where
-    go : (o : Outcome) → stood (e ∷ h) (starts (length h) o ++ sent h) ≡ stood (e ∷ h) (starts (length h) o) ++ ps
-    go (Passed asker asked kind t) = rw (eqb-same (length h), k)
-    go (Answered asked asker t c) = k
-    go (Swallowed asked t) = k
-    go Event = k
-    go (Turned asker asked t c) = k
-    go (Given asker asked t) = k
-    go (Reset a) = k
-    go (Refused r) = k
+starting e h ps k = split (isPassed (e .outcome)) (λ p. rw (p, eqb-same (length h), k)) (λ p. rw p k)
 
 begun : (e : Entry) (h : List Entry) (v : View) → Conduct v
     → stood (e ∷ h) (starts (length h) (e .outcome)) ++ collect (lives (e .outcome)) (v .places) ≡ placesAfter (e .outcome) (v .places)
@@ -126,27 +109,14 @@ pub told : (rows : List Row) (steps : List Step) → stood (history rows steps) 
 told rows [] = refl
 told rows (s ∷ steps) =
     let v = viewAfter rows steps in
-    told-step record { step = s; outcome = judge v (s .room) (s .call) } (history rows steps) v (conduct-after rows steps) (told rows steps)
+    told-step (entry s (judge v (s .room) (s .call))) (history rows steps) v (conduct-after rows steps) (told rows steps)
 
 -- ---- a command stands as it was sent, or as owed
 
-owe-or-not : (q : Bool) (p y : Place) → cond q (some (owing p)) (some p) ≡ some y → (y ≡ p) ⊎ (y ≡ owing p)
-owe-or-not true p y e = let k : owing p ≡ y = cc in inr (sym k)
-owe-or-not false p y e = let k : p ≡ y = cc in inl (sym k)
-
-end-or-not : (q : Bool) (p y : Place) → cond q none (some p) ≡ some y → (y ≡ p) ⊎ (y ≡ owing p)
-end-or-not true p y e = differ (cc)
-end-or-not false p y e = let k : p ≡ y = cc in inl (sym k)
-
-lives-as : (o : Outcome) (p y : Place) → lives o p ≡ some y → (y ≡ p) ⊎ (y ≡ owing p)
-lives-as (Passed asker asked kind t) p y e = let k : p ≡ y = cc in inl (sym k)
-lives-as (Answered asked asker t k) p y e = end-or-not (asksExactly asked t p) p y e
-lives-as (Swallowed asked t) p y e = end-or-not (owesExactly asked t p) p y e
-lives-as Event p y e = let k : p ≡ y = cc in inl (sym k)
-lives-as (Turned asker asked t k) p y e = let k : p ≡ y = cc in inl (sym k)
-lives-as (Given asker asked t) p y e = owe-or-not (asksExactly asked t p) p y e
-lives-as (Reset a) p y e = end-or-not (owedBy a p) p y e
-lives-as (Refused r) p y e = let k : p ≡ y = cc in inl (sym k)
+lived : (q g : Bool) (p y : Place) → cond q (cond g (some (owing p)) none) (some p) ≡ some y → (y ≡ p) ⊎ (y ≡ owing p)
+lived true true p y e = let k : owing p ≡ y = cc in inr (sym k)
+lived true false p y e = differ (cc)
+lived false g p y e = let k : p ≡ y = cc in inl (sym k)
 
 pub stands-as : (h : List Entry) (c : Sent) (y : Place) → standing h c ≡ some y → (y ≡ c .command) ⊎ (y ≡ owing (c .command))
 stands-as [] c y e = differ (cc)
@@ -164,7 +134,7 @@ stands-as (e ∷ h) c y k =
     go : (o : Option Place) → ((z : Place) → o ≡ some z → (z ≡ c .command) ⊎ (z ≡ owing (c .command))) → livesOn (e .outcome) o ≡ some y
         → (y ≡ c .command) ⊎ (y ≡ owing (c .command))
     go none ih m = differ (cc)
-    go (some p) ih m = on p (lives-as (e .outcome) p y m) (ih p refl)
+    go (some p) ih m = on p (lived (ends (e .outcome) p) (isGiven (e .outcome)) p y m) (ih p refl)
 
 pub open-as : (h : List Entry) (c : Sent) (y : Place) → standing h c ≡ some y → isOpen y ≡ true → y ≡ c .command
 open-as h c y e o = elim (stands-as h c y e) [ inl k ↦ k | inr k ↦ clash (isOpen y) o (ap isOpen k) ]

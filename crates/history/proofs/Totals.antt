@@ -5,6 +5,7 @@ use mathlib.Core.List.{List, [], _∷_, _++_}
 use native.Mathlib.Omega.{arith}
 use lib.ListN.{length}
 use Rattle.lists.specs.Lists.{one, without}
+use Rattle.lists.proofs.Tests.{split}
 use Rattle.lists.proofs.First.{length-first}
 use Rattle.table.specs.declared.Row.{Row}
 use Rattle.places.specs.Places.{waits, asksExactly}
@@ -16,22 +17,13 @@ use Rattle.rules.specs.Apply.{placesAfter}
 use Rattle.places.proofs.Two.{waits-stay}
 use Rattle.rules.proofs.Waits.{waits-answered, waits-given, waits-swallowed, found-waits}
 use Rattle.rules.proofs.Allowed.{Allowed, Innermost, allowed}
-use Rattle.history.specs.History.{Step, Entry, viewAfter, history, starts, sent, isPassed, isAnswered, isGiven, total}
+use Rattle.history.specs.History.{Step, Entry, viewAfter, history, sent, isPassed, isAnswered, isGiven, total}
 
 -- each passed outcome is one command
 pub accepted-sent : (h : List Entry) → total isPassed h ≡ length (sent h)
 accepted-sent [] = refl
-accepted-sent (e ∷ h) = go (e .outcome) (accepted-sent h)
-  where
-    go : (o : Outcome) → total isPassed h ≡ length (sent h) → one (isPassed o) + total isPassed h ≡ length (starts (length h) o ++ sent h)
-    go (Passed asker asked kind t) ih = omega arith
-    go (Answered asked asker t k) ih = omega arith
-    go (Swallowed asked t) ih = omega arith
-    go Event ih = omega arith
-    go (Turned asker asked t k) ih = omega arith
-    go (Given asker asked t) ih = omega arith
-    go (Reset a) ih = omega arith
-    go (Refused r) ih = omega arith
+accepted-sent (e ∷ h) =
+    split (isPassed (e .outcome)) (λ p. rw p (omega (arith, accepted-sent h))) (λ p. rw p (omega (arith, accepted-sent h)))
 
 ended-wait : (v : View) (asker asked t : ℕ) → Innermost v asker asked t
     → length (waits (v .places)) ≡ suc (length (without (asksExactly asked t) (waits (v .places))))

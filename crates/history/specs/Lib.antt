@@ -1,4 +1,3 @@
 pub mod History
 pub mod Marks
 pub mod Promise
-pub mod Used

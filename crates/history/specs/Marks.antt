@@ -9,8 +9,7 @@ use Rattle.lists.specs.Lists.{In}
 use Rattle.places.specs.declared.Place.{Place}
 use Rattle.places.specs.Places.{onThread, asks}
 use Rattle.rules.specs.declared.Outcome.{Outcome}
-use Rattle.rules.specs.declared.Outcome.the-variants.{Passed, Answered, Swallowed, Event, Turned, Given, Reset, Refused}
-use Rattle.history.specs.History.{Entry, Sent, sent, ended}
+use Rattle.history.specs.History.{Entry, isAnswered, isSwallowed, isReset, named, Sent, sent, ended}
 
 -- exactly this address is asked on this thread, by a command that may be open, owed or done with
 abbrev pub addressed : ℕ → ℕ → Place → Bool
@@ -18,36 +17,15 @@ addressed a t p = eqb (p .asked) a && onThread t p
 
 -- a response that was not refused
 abbrev pub isReply : Outcome → Bool
-isReply (Passed asker asked kind t) = false
-isReply (Answered asked asker t k) = true
-isReply (Swallowed asked t) = true
-isReply Event = false
-isReply (Turned asker asked t k) = false
-isReply (Given asker asked t) = false
-isReply (Reset h) = false
-isReply (Refused r) = false
+isReply o = isAnswered o || isSwallowed o
 
 -- 'whose exact asked address and thread are the response's source and thread'
 abbrev pub fits : Outcome → Place → Bool
-fits (Passed asker asked kind t) p = false
-fits (Answered asked asker t k) p = addressed asked t p
-fits (Swallowed asked t) p = addressed asked t p
-fits Event p = false
-fits (Turned asker asked t k) p = false
-fits (Given asker asked t) p = false
-fits (Reset h) p = false
-fits (Refused r) p = false
+fits o p = addressed (named o .asked) (named o .thread) p
 
 -- an accepted replaced call of the handler that a command asks
 abbrev pub replaces : Outcome → Place → Bool
-replaces (Passed asker asked kind t) p = false
-replaces (Answered asked asker t k) p = false
-replaces (Swallowed asked t) p = false
-replaces Event p = false
-replaces (Turned asker asked t k) p = false
-replaces (Given asker asked t) p = false
-replaces (Reset h) p = asks h p
-replaces (Refused r) p = false
+replaces o p = isReset o && asks (named o .asked) p
 
 -- such a call stands after the command's own entry
 abbrev pub replacedSince : List Entry → Sent → Bool

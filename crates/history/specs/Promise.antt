@@ -14,26 +14,26 @@ use Rattle.rules.specs.Judge.{judge}
 use Rattle.rules.specs.Apply.{applied}
 use Rattle.rules.specs.Says.{Says}
 use Rattle.rules.specs.Words.{Worded, singles, multis, most}
-use Rattle.history.specs.History.{Step, Entry, Sent, sent, openIn, owedIn, commands, debts, ended, endsOne, isPassed, isAnswered, isGiven, Fate, Concerns, total}
+use Rattle.history.specs.History.{Step, Entry, goesOut, Sent, sent, openIn, owedIn, commands, debts, ended, endsOne, isPassed, isAnswered, isGiven, Fate, Went, Concerns, total}
 use Rattle.history.specs.Marks.{Bears}
 
--- calls that were made one after the other, from a fresh router over these rows, each with its outcome and with the next state's view: what
+-- calls that were made one after the other, from a fresh router over these rows, each with its outcome, with what went out, and with the next state's view: what
 -- the contracts of the router's methods tell of a run of the code
 pub data Ran (rows : List Row) : List Entry → View → Type 0 where
   begun : (v : View) → v ≡ fresh rows → Ran rows [] v
   going : (h : List Entry) (v : View) → Ran rows h v
-      → (s : Step) (o : Outcome) (w : View) → o ≡ judge v (s .room) (s .call) → w ≡ applied o v
-      → Ran rows (record { step = s; outcome = o } ∷ h) w
+      → (s : Step) (o : Outcome) (b : List ℕ) (w : View) → o ≡ judge v (s .room) (s .call) → b ≡ goesOut s o → w ≡ applied o v
+      → Ran rows (record { step = s; outcome = o; out = b } ∷ h) w
 
 -- 'Each answered, given or swallowed outcome is shown to end exactly one.'
 abbrev pub EachEndsOne : List Entry → Type 0
 EachEndsOne [] = Unit {0}
 EachEndsOne (e ∷ h) = (endsOne (e .outcome) ≡ true → (d : Sent) × (ended h (e .outcome) ≡ d ∷ [])) × EachEndsOne h
 
--- and a response goes to the asker of the command that it ends, from its asked address, on its thread
+-- and it concerns that one: a response goes to its asker, from its asked address, on its thread
 abbrev pub EachConcerns : List Entry → Type 0
 EachConcerns [] = Unit {0}
-EachConcerns (e ∷ h) = ((d : Sent) → In d (ended h (e .outcome)) → Concerns (e .outcome) d) × EachConcerns h
+EachConcerns (e ∷ h) = ((d : Sent) → In d (ended h (e .outcome)) → Concerns e d) × EachConcerns h
 
 -- 'an answered or swallowed response bears the mark of the wait or owing it ends'
 abbrev pub EachBears : (mark : ℕ → ℕ) → List Entry → Type 0
@@ -50,6 +50,8 @@ pub record Promise (h : List Entry) (v : View) : Type 0 where
   pub fates : (c : Sent) → In c (sent h) → Fate h c
   pub ends-one : EachEndsOne h
   pub to-asker : EachConcerns h
+  -- what went out, a turned command's response too
+  pub went : All Went h
   -- the outcomes carry what the calls' bytes say
   pub bytes : All (λ (e : Entry). Says (e .step .call) (e .outcome)) h
   -- accepted = answered + given up + waiting

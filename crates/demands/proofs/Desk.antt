@@ -9,7 +9,7 @@ use Rattle.rules.proofs.Sums as rules
 use Rattle.cutter.proofs.Whole as cutter
 use Rattle.events.specs.Events.{Result}
 use Rattle.events.proofs.Sums as events
-use Rattle.desk.specs.Desk.{Desk}
+use Rattle.demands.specs.Desk.{Desk}
 
 pub desk : Desk
 unfolding messageOf responseOf

@@ -23,7 +23,7 @@ use Rattle.router.specs.declared.Router.{Router}
 use Rattle.router.specs.Router.{viewOf, Lawful}
 use Rattle.router.specs.Start.{startOf}
 use Rattle.router.proofs.Starts.{lent-view, lent-law}
-use Rattle.desk.specs.Cheats.{Build, Meets, RefusesAll, OneOutcome, DoesNothing, Echoes}
+use Rattle.demands.specs.Cheats.{Build, Meets, RefusesAll, OneOutcome, DoesNothing, Echoes}
 
 -- ---- the page's session, up to its first message and that message again
 
