@@ -1,31 +1,34 @@
 -- No such build meets the contract of `route`. Each is led to the page's session: a fresh router over its three rows, and its first message.
 use Prim.Native.Nat.{ℕ}
 use mathlib.Core.Path.{_≡_, refl, sym, ap, _∙_}
-use mathlib.Core.Bool.{Bool, true}
-use mathlib.Core.List.{List, [], _∷_, reverse}
+use mathlib.Core.Bool.{true}
+use mathlib.Core.List.{List, [], _∷_}
 use native.Mathlib.Omega.{arith}
-use lib.ListN.{length, replicate}
+use lib.ListN.{length}
 use Rattle.tapa.specs.Address.{categoryOf, subAddressOf, handlerOf, multi}
 use Rattle.tapa.specs.Codes.{handlerError}
 use Rattle.tapa.specs.Types.{own, common}
+use Rattle.tapa.specs.declared.Refusal.{Refusal}
 use Rattle.tapa.specs.declared.Refusal.the-variants.{TooShort}
 use Rattle.message.specs.Message.{readOf, partOf, codeOf}
 use Rattle.table.specs.declared.Row.{Row}
 use Rattle.table.specs.declared.Checked.the-variants.{Accepted}
 use Rattle.table.specs.Table.{shaped, judgeTable}
+use Rattle.places.specs.Places.{waits}
 use Rattle.rules.specs.View.{View, fresh}
 use Rattle.rules.specs.declared.Outcome.{Outcome}
-use Rattle.rules.specs.declared.Outcome.the-variants.{Passed, Turned, Refused}
+use Rattle.rules.specs.declared.Outcome.the-variants.{Passed, Answered, Turned, Refused}
 use Rattle.rules.specs.Judge.{late, reply, judgeResponse, busy, judgeCommand, judgeKind, judgeRead, judgeMessage}
-use Rattle.rules.specs.Apply.{applied}
-use Rattle.rules.proofs.Sums.{row, rows, one-passed, session}
+use Rattle.rules.specs.Apply.{applied, reopened}
+use Rattle.rules.proofs.Sums.{row, rows, one-passed}
 use Rattle.router.specs.declared.Router.{Router}
 use Rattle.router.specs.Router.{viewOf, Lawful}
 use Rattle.router.specs.Start.{startOf}
 use Rattle.router.proofs.Starts.{lent-view, lent-law}
-use Rattle.demands.specs.Cheats.{Build, Meets, RefusesAll, OneOutcome, DoesNothing, Echoes}
+use Rattle.demands.specs.Cheats.{Build, Meets, RefusesAll, OneOutcome, DoesNothing, ten, Echoes}
+use Rattle.demands.proofs.Used.{start-fresh}
 
--- ---- the page's session, up to its first message and that message again
+-- ---- the page's session, up to its first message, and what may come after it
 
 abbrev lent : List Row
 lent = row 0x0202 true ∷ row 0x0001 true ∷ row 0x0100 true ∷ []
@@ -37,66 +40,81 @@ accepted = refl
 abbrev began : Router
 began = startOf lent .router
 
-began-view : viewOf began ≡ fresh rows
-began-view = lent-view lent accepted
-
+-- the till asks the PSAM, and the PSAM answers
 abbrev ask : List ℕ
 ask = 0x00 ∷ 0x01 ∷ 0x01 ∷ 0x00 ∷ 0x42 ∷ 0x03 ∷ 0x00 ∷ 0x01 ∷ 0xAA ∷ []
 
-abbrev buffer : List ℕ
-buffer = replicate 10 0
+abbrev answer : List ℕ
+answer = 0x01 ∷ 0x00 ∷ 0x00 ∷ 0x01 ∷ 0xFF ∷ 0x03 ∷ 0x00 ∷ 0x02 ∷ 0x00 ∷ 0x00 ∷ []
 
 abbrev passes : Outcome
 passes = Passed 0x0100 0x0001 0x42 3
 
--- the till asks once more while its first question is open
-asks-again : judgeMessage one-passed 10 ask ≡ Turned 0x0100 0x0001 3 handlerError
-unfolding readOf partOf codeOf categoryOf handlerOf multi own common late reply judgeResponse busy judgeCommand judgeKind judgeRead judgeMessage
-asks-again = refl
+-- what comes of them, by the definitions
+record Computed : Type 0 where
+  pub too-short : judgeMessage (fresh rows) 10 [] ≡ Refused TooShort
+  pub asked : judgeMessage (fresh rows) 10 ask ≡ passes
+  pub waits-on : applied passes (fresh rows) ≡ one-passed
+  pub asked-again : judgeMessage one-passed 10 ask ≡ Turned 0x0100 0x0001 3 handlerError
+  pub answered : judgeMessage one-passed 10 answer ≡ Answered 0x0001 0x0100 3 0
+  pub waits-no-more : applied (Answered 0x0001 0x0100 3 0) one-passed ≡ fresh rows
 
-too-short : (v : View) → judgeMessage v 10 [] ≡ Refused TooShort
-unfolding readOf partOf codeOf judgeRead judgeMessage
-too-short v = refl
+computed : Computed
+unfolding readOf partOf codeOf categoryOf handlerOf multi own common late reply judgeResponse busy judgeCommand judgeKind judgeRead judgeMessage reopened
+computed = record { too-short = refl; asked = refl; waits-on = refl; asked-again = refl; answered = refl; waits-no-more = refl }
 
 module _ (b : Build) (m : Meets b) where
-  begun : b began ask buffer .routed .outcome ≡ passes
-  begun = m began (lent-law lent) ask buffer .outcome ∙ ap (λ (v : View). judgeMessage v 10 ask) began-view ∙ session .first-line .outcome
+  -- one message: its outcome, and the next state
+  record Step (r : Router) (s : List ℕ) (o : Outcome) (w : View) : Type 0 where
+    pub outcome : b r s ten .routed .outcome ≡ o
+    pub view : viewOf (b r s ten .routed .next) ≡ w
+    pub law : Lawful (b r s ten .routed .next)
+
+  step : (r : Router) (v : View) → Lawful r → viewOf r ≡ v → (s : List ℕ) (o : Outcome) (w : View) → judgeMessage v 10 s ≡ o → applied o v ≡ w → Step r s o w
+  step r v l e s o w j a =
+      let c = m r l s ten in
+      let k : judgeMessage (viewOf r) 10 s ≡ o = ap (λ (x : View). judgeMessage x 10 s) e ∙ j in
+      record { outcome = c .outcome ∙ k; view = c .view ∙ ap (λ (x : Outcome). applied x (viewOf r)) k ∙ ap (applied o) e ∙ a; law = c .law }
+
+  first : Step began ask passes one-passed
+  first = step began (fresh rows) (lent-law lent) (lent-view lent accepted) ask passes one-passed (computed .asked) (computed .waits-on)
 
   abbrev on : Router
-  on = b began ask buffer .routed .next
+  on = b began ask ten .routed .next
 
-  on-view : viewOf on ≡ one-passed
-  on-view =
-      m began (lent-law lent) ask buffer .view
-      ∙ ap (λ (v : View). applied (judgeMessage v 10 ask) v) began-view
-      ∙ ap (λ (o : Outcome). applied o (fresh rows)) (session .first-line .outcome)
-      ∙ session .first-line .after
-
-  again : b on ask buffer .routed .outcome ≡ Turned 0x0100 0x0001 3 handlerError
-  again =
-      m on (m began (lent-law lent) ask buffer .law) ask buffer .outcome
-      ∙ ap (λ (v : View). judgeMessage v 10 ask) on-view ∙ asks-again
+  second : Step on answer (Answered 0x0001 0x0100 3 0) (fresh rows)
+  second = step on one-passed (first .law) (first .view) answer _ (fresh rows) (computed .answered) (computed .waits-no-more)
 
   pub refuses-all : RefusesAll b → ⊥
-  refuses-all c = differ (sym (c began (lent-law lent) ask buffer .1) ∙ begun)
+  refuses-all c = let r = c began (lent-law lent) ask ten in differ (r .0) (sym (r .1) ∙ first .outcome)
     where
-      differ : Refused (c began (lent-law lent) ask buffer .0) ≡ passes → ⊥
-      differ e = let z : _≡_ {A = ℕ} 0 1 = cc in omega arith
+      differ : (k : Refusal) → Refused k ≡ passes → ⊥
+      differ k e = let z : _≡_ {A = ℕ} 0 1 = cc in omega arith
 
   pub one-outcome : OneOutcome b → ⊥
-  one-outcome c = differ (sym (m began (lent-law lent) [] buffer .outcome ∙ too-short (viewOf began)) ∙ c .1 began (lent-law lent) [] buffer ∙ sym (c .1 began (lent-law lent) ask buffer) ∙ begun)
+  one-outcome c = differ (sym (short .outcome) ∙ c .1 began (lent-law lent) [] ten ∙ sym (c .1 began (lent-law lent) ask ten) ∙ first .outcome)
     where
+      short : Step began [] (Refused TooShort) (fresh rows)
+      short = step began (fresh rows) (lent-law lent) (lent-view lent accepted) [] (Refused TooShort) (fresh rows) (computed .too-short) refl
+
       differ : Refused TooShort ≡ passes → ⊥
       differ e = let z : _≡_ {A = ℕ} 0 1 = cc in omega arith
 
   pub does-nothing : DoesNothing b → ⊥
   does-nothing c =
-      let e : viewOf began ≡ one-passed = ap viewOf (sym (c began (lent-law lent) ask buffer)) ∙ on-view in
-      let n : _≡_ {A = ℕ} 0 1 = ap (λ (v : View). length (v .places)) (sym began-view ∙ e) in
+      let n : _≡_ {A = ℕ} 1 0 =
+      ap (λ (v : View). length (waits (v .places))) (sym (first .view)) ∙ ap length (c began (lent-law lent) ask ten) ∙ ap (λ (v : View). length (waits (v .places))) (lent-view lent accepted) in
       omega arith
 
+  -- the till asks again: with nothing between it is turned back, and with the answer between it is passed
   pub echoes : Echoes b → ⊥
-  echoes c = differ (sym again ∙ c began (lent-law lent) ask buffer ∙ begun)
+  echoes c = differ (sym (turned .outcome) ∙ c .1 began (start-fresh lent) ask [] ask ∙ sym (c .1 began (start-fresh lent) ask (answer ∷ []) ask) ∙ passed .outcome)
     where
+      turned : Step on ask (Turned 0x0100 0x0001 3 handlerError) one-passed
+      turned = step on one-passed (first .law) (first .view) ask _ one-passed (computed .asked-again) refl
+
+      passed : Step (b on answer ten .routed .next) ask passes one-passed
+      passed = step _ (fresh rows) (second .law) (second .view) ask passes one-passed (computed .asked) (computed .waits-on)
+
       differ : Turned 0x0100 0x0001 3 handlerError ≡ passes → ⊥
       differ e = let z : _≡_ {A = ℕ} 0 1 = cc in omega arith

@@ -4,6 +4,8 @@ use Rattle.message.specs.Message.{messageOf, responseOf}
 use Rattle.message.proofs.Sums as message
 use Rattle.table.specs.Said.{saidChecked}
 use Rattle.table.proofs.Desk as table
+use Rattle.rules.specs.declared.Outcome.{Outcome}
+use Rattle.rules.specs.Apply.{written}
 use Rattle.rules.specs.Said.{saidOutcome}
 use Rattle.rules.proofs.Sums as rules
 use Rattle.cutter.proofs.Whole as cutter
@@ -19,6 +21,7 @@ desk = record {
   c3 = message.c3;
   c4 = message.c4;
   c5 = ap saidOutcome (rules.c5 .outcome);
+  c5-bytes = λ buffer. ap (λ (o : Outcome). written o buffer) (rules.c5 .outcome);
   c6 = cutter.desk-c6;
   c7 = cutter.desk-c7;
   c9 = λ s buffer g enough. ap (λ (r : Result). r .reply) (events.c9 s (g .size) (g .none) buffer enough (g .there) (g .kind));

@@ -1,26 +1,30 @@
--- How far each contract reaches: what demand 2 and demand 3 stop.
+-- How far each contract reaches: what demands 2 and 3 stop. Each is a build as one sees it from outside, by its signature alone.
 use Prim.Native.Nat.{ℕ}
 use mathlib.Core.Path.{_≡_}
 use mathlib.Core.List.{List, [], _∷_}
-use lib.ListN.{length}
+use lib.ListN.{length, replicate}
 use Rattle.tapa.specs.declared.Refusal.{Refusal}
+use Rattle.places.specs.Places.{waits}
 use Rattle.rules.specs.declared.Outcome.{Outcome}
 use Rattle.rules.specs.declared.Outcome.the-variants.{Refused}
 use Rattle.rules.specs.Judge.{judgeMessage}
 use Rattle.router.specs.declared.Router.{Router}
 use Rattle.router.specs.declared.Routed.{Routed}
 use Rattle.router.specs.Router.{viewOf, Lawful, Routing}
+use Rattle.demands.specs.Used.{Fresh}
+
+-- ---- builds of `route`
 
 -- what a build's routing leaves behind: the outcome with the next state, and the reply buffer
 pub record Left : Type 0 where
   pub routed : Routed
   pub reply : List ℕ
 
--- a build, as far as one can see it from outside: what its routing leaves of a state, a message and a buffer
+-- a build: what its routing leaves of a state, a message and a buffer
 abbrev pub Build : Type 0
 Build = Router → List ℕ → List ℕ → Left
 
--- a build that meets the contract of `route`
+-- it meets the contract of `route`
 abbrev pub Meets : Build → Type 0
 Meets b = (r : Router) → Lawful r → (s buffer : List ℕ)
     → Routing (judgeMessage (viewOf r) (length buffer) s) r buffer (b r s buffer .reply) (b r s buffer .routed)
@@ -33,10 +37,21 @@ RefusesAll b = (r : Router) → Lawful r → (s buffer : List ℕ) → (k : Refu
 abbrev pub OneOutcome : Build → Type 0
 OneOutcome b = (o : Outcome) × ((r : Router) → Lawful r → (s buffer : List ℕ) → b r s buffer .routed .outcome ≡ o)
 
--- one that 'does nothing (a passed message becomes a wait)'
+-- one that 'does nothing (a passed message becomes a wait)': no message leaves other waits behind
 abbrev pub DoesNothing : Build → Type 0
-DoesNothing b = (r : Router) → Lawful r → (s buffer : List ℕ) → b r s buffer .routed .next ≡ r
+DoesNothing b = (r : Router) → Lawful r → (s buffer : List ℕ) → waits (viewOf (b r s buffer .routed .next) .places) ≡ waits (viewOf r .places)
 
--- one that 'routes the first message and then echoes': the same message again has the same outcome again
+-- a reply buffer
+abbrev pub ten : List ℕ
+ten = replicate 10 0
+
+-- the state after some messages, the first one first
+abbrev pub after : Build → Router → List (List ℕ) → Router
+after b r [] = r
+after b r (s ∷ more) = after b (b r s ten .routed .next) more
+
+-- one that 'routes the first message and then echoes', whatever it echoes: what comes of a later message is made of the first message and of
+-- itself; what came between does not show
 abbrev pub Echoes : Build → Type 0
-Echoes b = (r : Router) → Lawful r → (s buffer : List ℕ) → b (b r s buffer .routed .next) s buffer .routed .outcome ≡ b r s buffer .routed .outcome
+Echoes b = (echo : Router → (first last : List ℕ) → Outcome)
+    × ((r : Router) → Fresh r → (first : List ℕ) (between : List (List ℕ)) (last : List ℕ) → b (after b r (first ∷ between)) last ten .routed .outcome ≡ echo r first last)

@@ -4,7 +4,7 @@ use mathlib.Core.Path.{_≡_}
 use mathlib.Core.Bool.{Bool, true, false}
 use mathlib.Core.List.{List, [], _∷_}
 use lib.ListN.{length, take, drop, getD}
-use Rattle.lists.specs.Lists.{onto, count}
+use Rattle.lists.specs.Lists.{onto}
 use Rattle.tapa.specs.Address.{handlerOf}
 use Rattle.tapa.specs.Codes.{noEvents, getEvent, eventHandler}
 use Rattle.tapa.specs.Numbers.{wordAt}
@@ -14,9 +14,10 @@ use Rattle.message.specs.declared.Reading.the-variants.{Message}
 use Rattle.message.specs.Message.{headOf, readOf, responseOf}
 use Rattle.message.specs.Said.{saidReading}
 use Rattle.table.specs.declared.Row.{Row}
-use Rattle.table.specs.Table.{listed, isMulti, judgeTable}
+use Rattle.table.specs.Table.{listed, judgeTable}
 use Rattle.table.specs.Said.{saidChecked}
 use Rattle.rules.specs.View.{View, fresh}
+use Rattle.rules.specs.declared.Outcome.{Outcome}
 use Rattle.rules.specs.Judge.{message, judge}
 use Rattle.rules.specs.Apply.{written}
 use Rattle.rules.specs.Said.{saidOutcome}
@@ -29,8 +30,12 @@ use Rattle.events.specs.Said.{saidAnswer}
 abbrev pub row : ℕ → Bool → Row
 row a o = record { address = a; opened = o }
 
-abbrev pub ten : List ℕ
-ten = 0x01 ∷ 0x00 ∷ 0x02 ∷ 0x02 ∷ 0xFF ∷ 0x03 ∷ 0x00 ∷ 0x02 ∷ 0xFF ∷ 0xF7 ∷ []
+-- what comes of C5's message in a fresh router over an open till driver and a closed reader, and the reply of the page
+abbrev pub c5-outcome : Outcome
+c5-outcome = judge (fresh (row 0x0100 true ∷ row 0x0202 false ∷ [])) 10 (message (0x02 ∷ 0x02 ∷ 0x01 ∷ 0x00 ∷ 0x45 ∷ 0x03 ∷ 0x00 ∷ 0x00 ∷ []))
+
+abbrev pub c5-reply : List ℕ
+c5-reply = 0x01 ∷ 0x00 ∷ 0x02 ∷ 0x02 ∷ 0xFF ∷ 0x03 ∷ 0x00 ∷ 0x02 ∷ 0xFF ∷ 0xF7 ∷ []
 
 -- a Get for the event queue: eight bytes, no data
 pub record IsGet (s : List ℕ) : Type 0 where
@@ -48,9 +53,9 @@ pub record Desk : Type 0 where
   pub c3 : (s : List ℕ) → length s ≡ 1032 → wordAt s 6 ≡ 1024 → readOf s ≡ Message (headOf s)
   -- 'C4 length 1,025: 2.'
   pub c4 : (s : List ℕ) → 8 ≤ length s → wordAt s 6 ≡ 1025 → saidReading (readOf s) ≡ refused 2
-  -- 'C5 '0202' closed, `0202 0100 45 03 0000`: turned, `0100 0202 FF 03 0002 FFF7`.'
-  pub c5 : saidOutcome (judge (fresh (row 0x0100 true ∷ row 0x0202 false ∷ [])) 10 (message (0x02 ∷ 0x02 ∷ 0x01 ∷ 0x00 ∷ 0x45 ∷ 0x03 ∷ 0x00 ∷ 0x00 ∷ [])))
-      ≡ says turned ten
+  -- 'C5 '0202' closed, `0202 0100 45 03 0000`: turned, `0100 0202 FF 03 0002 FFF7`.': what is said, and what the reply buffer then holds
+  pub c5 : saidOutcome c5-outcome ≡ says turned c5-reply
+  pub c5-bytes : (buffer : List ℕ) → written c5-outcome buffer ≡ onto c5-reply buffer
   -- 'C6 response with 248 data bytes, code included: one command, P2 '00'.'
   pub c6 : (part : List ℕ) (thread : ℕ) → length part ≡ 248 → commandsOf part thread ≡ commandOf thread 0x00 part ∷ []
   -- 'C7 249: 248 then 1.'

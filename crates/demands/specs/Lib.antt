@@ -1,3 +1,3 @@
 pub mod Desk
-pub mod Cheats
 pub mod Used
+pub mod Cheats

@@ -18,7 +18,7 @@ use Rattle.history.specs.History.{Step, Entry, history, openIn, owedIn, 
 use Rattle.history.specs.Marks.{Honest, Bears}
 use Rattle.history.proofs.Marks.{marks}
 
-abbrev step : Call → Step
+abbrev pub step : Call → Step
 step c = record { room = 10; call = c }
 
 -- the response of '0001' that comes after its wait was given up
@@ -60,9 +60,7 @@ honest = (
     of-it = record { no = 0; command = place 0x0100 0x0001 0x42 3 };
     numbered = refl;
     passed-before = inr (inl refl);
-    its-address = refl;
-    not-used = refl;
-    not-replaced = refl;
+    meets = (refl, refl, refl);
   },
   (
     λ (e : false ≡ true). clash false e refl,
@@ -71,9 +69,7 @@ honest = (
         of-it = record { no = 1; command = place 0x0001 0x0202 0x45 3 };
         numbered = refl;
         passed-before = inl refl;
-        its-address = refl;
-        not-used = refl;
-        not-replaced = refl;
+        meets = (refl, refl, refl);
       },
       (λ (e : false ≡ true). clash false e refl, (λ (e : false ≡ true). clash false e refl, tt)),
     ),
@@ -87,16 +83,22 @@ late-bears = marks mark rows session (step late-call) honest
 
 -- ---- and over a replaced call: the reader gives no reply, is given up, exchanged and opened; the response that then comes replies to Open Handler
 
-abbrev lent : List Row
+abbrev pub lent : List Row
 lent = record { address = 0x0100; opened = true } ∷ record { address = 0x0202; opened = true } ∷ []
 
-abbrev replaced-run : List Step
+abbrev pub ask : Call
+ask = message (0x02 ∷ 0x02 ∷ 0x01 ∷ 0x00 ∷ 0x45 ∷ 0x03 ∷ 0x00 ∷ 0x00 ∷ [])
+
+abbrev pub answer : Call
+answer = message (0x01 ∷ 0x00 ∷ 0x02 ∷ 0x02 ∷ 0xFF ∷ 0x03 ∷ 0x00 ∷ 0x02 ∷ 0x00 ∷ 0x00 ∷ [])
+
+abbrev pub replaced-run : List Step
 replaced-run =
-    step (message (0x01 ∷ 0x00 ∷ 0x02 ∷ 0x02 ∷ 0xFF ∷ 0x03 ∷ 0x00 ∷ 0x02 ∷ 0x00 ∷ 0x00 ∷ []))
+    step answer
     ∷ step (message (0x02 ∷ 0x02 ∷ 0x01 ∷ 0x00 ∷ 0xF0 ∷ 0x03 ∷ 0x00 ∷ 0x00 ∷ []))
     ∷ step (replaced 0x0202)
     ∷ step (giveUp 3)
-    ∷ step (message (0x02 ∷ 0x02 ∷ 0x01 ∷ 0x00 ∷ 0x45 ∷ 0x03 ∷ 0x00 ∷ 0x00 ∷ []))
+    ∷ step ask
     ∷ []
 
 pub replaced-outcomes : map (λ (e : Entry). e .outcome) (history lent replaced-run)
@@ -111,9 +113,7 @@ honest-replaced = (
     of-it = record { no = 3; command = place 0x0100 0x0202 0xF0 3 };
     numbered = refl;
     passed-before = inl refl;
-    its-address = refl;
-    not-used = refl;
-    not-replaced = refl;
+    meets = (refl, refl, refl);
   },
   (λ (e : false ≡ true). clash false e refl, (λ (e : false ≡ true). clash false e refl, (λ (e : false ≡ true). clash false e refl, (λ (e : false ≡ true). clash false e refl, tt)))),
 )

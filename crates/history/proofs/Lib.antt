@@ -9,3 +9,4 @@ pub mod Totals
 pub mod Marks
 pub mod Promise
 pub mod Example
+pub mod Needed

@@ -23,7 +23,7 @@ use Rattle.rules.specs.Conduct.{Conduct}
 use Rattle.rules.proofs.Allowed.{Allowed, allowed}
 use Rattle.rules.proofs.After.{exact-once}
 use Rattle.history.specs.History.{Step, Entry, entry, viewAfter, history, isPassed, isAnswered, isGiven, isSwallowed, isReset, endsWait, endsOne, named, Sent, starts, sent, lives, livesOn, standing, meets, ends, ended}
-use Rattle.history.specs.Marks.{addressed, isReply, fits, replaces, replacedSince, used, Marked, Honest, Bears}
+use Rattle.history.specs.Marks.{addressed, isReply, fits, replaces, replacedSince, used, AllThree, Marked, Honest, Bears}
 use Rattle.history.proofs.Law.{conduct-after}
 use Rattle.history.proofs.Told.{sent-before, older, stood, told, stands-as}
 use Rattle.history.proofs.Ends.{wait-of, owing-of, found-one, one-ended, stood-in}
@@ -105,13 +105,13 @@ module _ (mark : ℕ → ℕ) where
           count-some (owesExactly (n .asked) (n .thread)) (v .places) (owing-of v o a s),
         ))))
 
-    bears : (o : Outcome) → Allowed v o → Every h → (isReply o ≡ true → Marked mark h o) → Bears mark h o
+    bears : (o : Outcome) → Allowed v o → Every h → (isReply o ≡ true → Marked mark (AllThree mark) h o) → Bears mark h o
     bears o a st m z = go (m z) (st (m z .of-it) (m z .passed-before))
       where
-        go : (n : Marked mark h o) → Status h (n .of-it) → (c : Sent) × (ended h o ≡ c ∷ []) × (c .no ≡ mark (length h))
-        go n (under-way y e) = (n .of-it, bears-it o a z (n .of-it) y (n .passed-before) e (n .its-address), n .numbered)
-        go n (replied u) = clash (used mark h (mark (length h))) (rw (n .numbered) at u) (n .not-used)
-        go n (gone r) = clash (replacedSince h (n .of-it)) r (n .not-replaced)
+        go : (n : Marked mark (AllThree mark) h o) → Status h (n .of-it) → (c : Sent) × (ended h o ≡ c ∷ []) × (c .no ≡ mark (length h))
+        go n (under-way y e) = (n .of-it, bears-it o a z (n .of-it) y (n .passed-before) e (n .meets .0), n .numbered)
+        go n (replied u) = clash (used mark h (n .of-it .no)) u (n .meets .1)
+        go n (gone r) = clash (replacedSince h (n .of-it)) r (n .meets .2)
 
     -- ---- one entry on
 
@@ -168,7 +168,7 @@ module _ (mark : ℕ → ℕ) where
   -- ---- a run
 
   bears-next : (rows : List Row) (steps : List Step) (s : Step) → Every (history rows steps)
-      → (isReply (judge (viewAfter rows steps) (s .room) (s .call)) ≡ true → Marked mark (history rows steps) (judge (viewAfter rows steps) (s .room) (s .call)))
+      → (isReply (judge (viewAfter rows steps) (s .room) (s .call)) ≡ true → Marked mark (AllThree mark) (history rows steps) (judge (viewAfter rows steps) (s .room) (s .call)))
       → Bears mark (history rows steps) (judge (viewAfter rows steps) (s .room) (s .call))
   bears-next rows steps s st m =
       let v = viewAfter rows steps in

@@ -1,3 +1,4 @@
 pub mod History
 pub mod Marks
 pub mod Promise
+pub mod Needed

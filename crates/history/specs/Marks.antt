@@ -39,20 +39,37 @@ module _ (mark : ℕ → ℕ) where
   used [] m = false
   used (e ∷ h) m = isReply (e .outcome) && eqb (mark (length h)) m || used h m
 
-  -- the premises, for the mark of the entry that comes after h
-  pub record Marked (h : List Entry) (o : Outcome) : Type 0 where
+  -- what the three premises ask of a response with the outcome o, after h, and of the passed command that its mark names
+
+  -- 'whose exact asked address and thread are the response's source and thread'
+  abbrev pub Addressed : List Entry → Outcome → Sent → Type 0
+  Addressed h o c = fits o (c .command) ≡ true
+
+  -- 'No mark stands on two responses that were not refused'
+  abbrev pub Unused : List Entry → Outcome → Sent → Type 0
+  Unused h o c = used h (c .no) ≡ false
+
+  -- 'after an accepted replaced call none stands for a command passed to that handler before it'
+  abbrev pub Unreplaced : List Entry → Outcome → Sent → Type 0
+  Unreplaced h o c = replacedSince h c ≡ false
+
+  abbrev pub AllThree : List Entry → Outcome → Sent → Type 0
+  AllThree h o c = Addressed h o c × Unused h o c × Unreplaced h o c
+
+  -- 'the number of the earlier passed command it replies to', and that command meets P
+  pub record Marked (P : List Entry → Outcome → Sent → Type 0) (h : List Entry) (o : Outcome) : Type 0 where
     pub of-it : Sent
     pub numbered : of-it .no ≡ mark (length h)
     pub passed-before : In of-it (sent h)
-    pub its-address : fits o (of-it .command) ≡ true
-    -- 'No mark stands on two responses that were not refused'
-    pub not-used : used h (mark (length h)) ≡ false
-    -- 'after an accepted replaced call none stands for a command passed to that handler before it'
-    pub not-replaced : replacedSince h of-it ≡ false
+    pub meets : P h o of-it
+
+  -- every response that was not refused bears such a mark
+  abbrev pub HonestBy : (P : List Entry → Outcome → Sent → Type 0) → List Entry → Type 0
+  HonestBy P [] = Unit {0}
+  HonestBy P (e ∷ h) = (isReply (e .outcome) ≡ true → Marked P h (e .outcome)) × HonestBy P h
 
   abbrev pub Honest : List Entry → Type 0
-  Honest [] = Unit {0}
-  Honest (e ∷ h) = (isReply (e .outcome) ≡ true → Marked h (e .outcome)) × Honest h
+  Honest h = HonestBy AllThree h
 
   -- 'an answered or swallowed response bears the mark of the wait or owing it ends'
   abbrev pub Bears : List Entry → Outcome → Type 0
