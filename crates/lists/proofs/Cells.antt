@@ -10,10 +10,14 @@ same-all zero j d = refl
 same-all (suc n) zero d = refl
 same-all (suc n) (suc j) d = same-all n j d
 
--- numbers below a bound stay below it
+-- what every cell has, and what is stored has too, every cell has after the store
+pub set-all : (P : ℕ → Type 0) (l : List ℕ) (i v : ℕ) → P v → ((j : ℕ) → P (getD l j 0)) → (j : ℕ) → P (getD (set l i v) j 0)
+set-all P [] i v g h j = h j
+set-all P (x ∷ l) zero v g h zero = g
+set-all P (x ∷ l) zero v g h (suc j) = h (suc j)
+set-all P (x ∷ l) (suc i) v g h zero = h 0
+set-all P (x ∷ l) (suc i) v g h (suc j) = set-all P l i v g (λ k. h (suc k)) j
+
+-- so numbers below a bound stay below it
 pub set-small : (l : List ℕ) (i v b : ℕ) → v < b → ((j : ℕ) → getD l j 0 < b) → (j : ℕ) → getD (set l i v) j 0 < b
-set-small [] i v b g h j = h j
-set-small (x ∷ l) zero v b g h zero = g
-set-small (x ∷ l) zero v b g h (suc j) = h (suc j)
-set-small (x ∷ l) (suc i) v b g h zero = h 0
-set-small (x ∷ l) (suc i) v b g h (suc j) = set-small l i v b g (λ k. h (suc k)) j
+set-small l i v b g h = set-all (λ (x : ℕ). x < b) l i v g h

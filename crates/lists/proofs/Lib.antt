@@ -5,5 +5,6 @@ pub mod Numbers
 pub mod Members
 pub mod Kept
 pub mod Cells
+pub mod Arrays
 pub mod Onto
 pub mod Parts

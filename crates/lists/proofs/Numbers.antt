@@ -21,7 +21,7 @@ module _ {A : Type 0} where
   find-inside q (x ∷ l) i e =
       split (q x) (λ p. omega (arith, same (length l) i (rw p at e))) (λ p. omega (arith, find-inside q l i (rw p at e)))
 
-  -- where nothing is found, nothing passes, and nothing is to be taken out
+  -- where nothing is found, nothing passes, and nothing is taken out or changed
   pub find-none : (q : A → Bool) (l : List A) → find q l ≡ Nothing → first q l ≡ none
   find-none q [] e = refl
   find-none q (x ∷ l) e = split (q x) (λ p. let f : At (length l) ≡ Nothing = rw p at e in differ (cc)) (λ p. rw p (find-none q l (rw p at e)))
@@ -30,6 +30,11 @@ module _ {A : Type 0} where
   find-none-without q [] e = refl
   find-none-without q (x ∷ l) e =
       split (q x) (λ p. let f : At (length l) ≡ Nothing = rw p at e in differ (cc)) (λ p. rw (p, find-none-without q l (rw p at e)))
+
+  pub find-none-changed : (f : A → A) (q : A → Bool) (l : List A) → find q l ≡ Nothing → changed f q l ≡ l
+  find-none-changed f q [] e = refl
+  find-none-changed f q (x ∷ l) e =
+      split (q x) (λ p. let g : At (length l) ≡ Nothing = rw p at e in differ (cc)) (λ p. rw (p, find-none-changed f q l (rw p at e)))
 
   -- to take out what was found is to take out the first that passes
   pub end-found : (q : A → Bool) (l : List A) (i : ℕ) → find q l ≡ At i → withoutAt i l ≡ without q l
