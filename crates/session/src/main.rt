@@ -1,4 +1,9 @@
-// Prints the lines of the session on standard input, or of each session file that is named.
+// Prints what became of each message and call of a session file, one line each, and the totals.
+//
+// Usage: ./kiosk session [FILE..]
+//
+// Without a file it reads standard input. A session file has at most 65,536 bytes. docs/book/ explains
+// every line, and `./kiosk hex` makes such a file from text.
 fn main() {
     printer::show_inputs(b"session");
 }
