@@ -5,7 +5,7 @@ use mathlib.Core.Bool.{true, false}
 use mathlib.Core.List.{List}
 use lib.ListN.{length}
 use Rattle.table.specs.Table.{Held}
-use Rattle.events.specs.Places as events
+use Rattle.queue.specs.Places as queue
 use Rattle.router.specs.Router as router
 use Rattle.bench.specs.declared.Parts.{Parts}
 use Rattle.bench.specs.declared.Bench.{Bench}
@@ -13,7 +13,7 @@ use Rattle.bench.specs.declared.Turn.{Turn}
 use Rattle.bench.specs.declared.Page.{Page}
 
 pub record Lawful (p : Parts) : Type 0 where
-  pub queue : events.Lawful (p .queue)
+  pub queue : queue.Lawful (p .queue)
   pub router : router.Lawful (p .router)
   pub rows : Held (p .rows)
 

@@ -9,12 +9,12 @@
 // parts are called within their laws, and that the lines lie in the lent buffer.
 use cutter::Cut;
 use cutter::Start;
-use events::Queue;
 use fields::Read;
 use joiner::Joiner;
 use joiner::Keeping;
 use message::Reading;
 use message::Writing;
+use queue::Queue;
 use router::Router;
 use rules::Outcome;
 use table::Checked;
@@ -296,7 +296,7 @@ impl Parts {
         ensures { λ r. ⌜ Lawful (r .next) ⌝ }
     {
         let queue = self.queue;
-        let handled = queue.handle(message, buffer);
+        let handled = events::handle(queue, message, buffer);
         let after = handled.next;
         let answer = handled.answer;
         let mut next = self;
@@ -701,7 +701,7 @@ fn bench_at(parts: Parts, at: usize, number: usize) -> Bench
 pub fn fresh() -> Bench
     ensures { λ r. ⌜ Sound r ⌝ }
 {
-    let queue = events::fresh();
+    let queue = queue::fresh();
     let joiner = joiner::fresh();
     let router = first_router();
     let rows = table::no_rows();

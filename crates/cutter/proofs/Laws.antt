@@ -1,48 +1,47 @@
 -- Laws of the cutter's definitions: what a start and a handing out answer, check by check, and what is written.
-use Prim.Native.Nat.{ℕ, _+_, _-_, _≤_, _<_}
+use Prim.Native.Nat.{ℕ, _+_, _*_, _-_, _≤_, _<_}
 use mathlib.Core.Path.{_≡_, refl, sym, ap, _∙_}
+use mathlib.Core.Bool.{not}
 use mathlib.Core.List.{List, [], _∷_, _++_}
 use native.Mathlib.Omega.{arith}
-use lib.ListN.{length, take, drop, set, length-append, length-drop}
+use lib.Dec.{eqb, ltb, leb}
+use lib.ListN.{length, take, drop, getD, set, length-append, length-drop}
 use lib.Seq.{take-all, length-take-le}
-use borrow.Author.Tests.{lt-ltb, le-ltb, le-leb, lt-leb, eq-eqb, ne-eqb}
+use borrow.Author.Tests.{lt-ltb, le-ltb, le-leb, lt-leb}
 use borrow.Rule.Slice.PartMut.{putMid}
 use denote.Ref.{RefT, now}
-use Rattle.lists.specs.Lists.{onto, LiesAt}
+use Rattle.lists.specs.Lists.{checks, onto, LiesAt}
+use Rattle.lists.proofs.Tests.{checks-said}
 use Rattle.lists.proofs.Onto.{onto-length, onto-then, onto-stores}
+use Rattle.tapa.specs.Numbers.{wordAt}
+use Rattle.tapa.specs.Said.{refused, says, cutting, command, done}
 use Rattle.tapa.specs.declared.Refusal.{Refusal}
-use Rattle.tapa.specs.declared.Refusal.the-variants.{ThreadAbove7, NoResponseCode, BufferTooSmall, NotThisPartsMessage}
-use Rattle.message.specs.Message.{readOf, partOf, DataPart}
-use Rattle.message.specs.declared.Head.{Head}
-use Rattle.message.specs.declared.Reading.the-variants.{Message, Refused as Unread}
+use Rattle.tapa.specs.declared.Refusal.the-variants.{BufferTooSmall}
+use Rattle.message.specs.Message.{headOf, partOf, DataPart}
+use Rattle.message.specs.declared.Reading.{Reading}
+use Rattle.message.proofs.Laws.{through-reading}
 use Rattle.cutter.specs.declared.Start.the-variants.{Ready, Refused as NotReady}
 use Rattle.cutter.specs.declared.Cut.the-variants.{Command, Done, Refused}
 use Rattle.cutter.specs.declared.Step.{Step}
 use Rattle.cutter.specs.declared.Begun.{Begun}
-use Rattle.cutter.specs.Cutting.{startOf, toCut, PartToCut, commandHead, commandOf, pieceAt, p2At, cutAt, placeAfter, writtenAt, HandsOut, Steps, Begins, Firsts}
+use Rattle.cutter.specs.Cutting.{startChecks, startOn, startOf, toCut, PartToCut, commandHead, commandOf, pieceAt, p2At, cutChecks, cutAt, placeAfter, writtenAt, HandsOut, Steps, Begins, Firsts}
+use Rattle.cutter.specs.Said.{saidStart, saidCut}
 
 -- ---- the start
 module _ (s : List ℕ) where
-  pub starts-unread : (r : Refusal) → readOf s ≡ Unread r → startOf s ≡ NotReady r
+  -- 1, 2, 3, 15, 5, 6, in this order; else the response's thread
+  pub said-start : saidStart (startOf s)
+      ≡ checks
+      ((ltb (length s) 8, refused 1)
+      ∷ (ltb 1024 (wordAt s 6), refused 2)
+      ∷ (not (eqb (length s) (8 + wordAt s 6)), refused 3)
+      ∷ (not (eqb (getD s 4 0) 0xFF), refused 15)
+      ∷ (ltb 7 (getD s 5 0), refused 5)
+      ∷ (ltb (wordAt s 6) 2, refused 6)
+      ∷ [])
+      (says cutting (getD s 5 0 ∷ []))
   unfolding startOf
-  starts-unread r e = rw e
-
-  module _ (h : Head) (e : readOf s ≡ Message h) where
-    pub starts-other : (h .kind ≡ 255 → ⊥) → startOf s ≡ NotReady NotThisPartsMessage
-    unfolding startOf
-    starts-other n = rw (e, ne-eqb (h .kind) 255 n)
-
-    pub starts-high : h .kind ≡ 255 → 7 < h .thread → startOf s ≡ NotReady ThreadAbove7
-    unfolding startOf
-    starts-high k t = rw (e, eq-eqb (h .kind) 255 k, lt-ltb 7 (h .thread) t)
-
-    pub starts-bare : h .kind ≡ 255 → h .thread ≤ 7 → h .length < 2 → startOf s ≡ NotReady NoResponseCode
-    unfolding startOf
-    starts-bare k t l = rw (e, eq-eqb (h .kind) 255 k, le-ltb 7 (h .thread) t, lt-ltb (h .length) 2 l)
-
-    pub starts : h .kind ≡ 255 → h .thread ≤ 7 → 2 ≤ h .length → startOf s ≡ Ready (h .thread)
-    unfolding startOf
-    starts k t l = rw (e, eq-eqb (h .kind) 255 k, le-ltb 7 (h .thread) t, le-ltb (h .length) 2 l)
+  said-start = through-reading (λ (r : Reading). saidStart (startOn r)) _ s (checks-said saidStart (startChecks (headOf s)) (Ready (getD s 5 0)))
 
   -- the data to cut
   cuts-part : (t : ℕ) → startOf s ≡ Ready t → toCut s ≡ partOf s
@@ -119,6 +118,12 @@ module _ (part buffer : List ℕ) (at : ℕ) where
   pub hands-out : 254 ≤ length buffer → at < length part → cutAt part at buffer ≡ Command (6 + length (pieceAt part at))
   unfolding cutAt
   hands-out b l = rw (le-ltb (length buffer) 254 b, lt-leb (length part) at l)
+
+  -- 9, done, in this order; else the command's length
+  pub said-cut : saidCut (cutAt part at buffer)
+      ≡ checks ((ltb (length buffer) 254, refused 9) ∷ (leb (length part) at, says done []) ∷ []) (says command ((6 + length (pieceAt part at)) ∷ []))
+  unfolding cutAt
+  said-cut = checks-said saidCut (cutChecks part at buffer) (Command (6 + length (pieceAt part at)))
 
   -- an answer that hands nothing out keeps the place and the buffer
   pub kept-small : (thread : ℕ) → length buffer < 254 → HandsOut part thread at buffer buffer (record { cut = Refused BufferTooSmall; next = at })

@@ -1,7 +1,7 @@
 -- Towards the PSAM: 'Cutting. A response's data, code included, becomes commands'.
 use Prim.Native.Nat.{ℕ, _+_, _-_}
 use mathlib.Core.Path.{_≡_}
-use mathlib.Core.Bool.{not, cond}
+use mathlib.Core.Bool.{Bool, not, cond}
 use mathlib.Core.List.{List, [], _∷_, _++_}
 use lib.Dec.{eqb, ltb, leb}
 use lib.ListN.{length, take, drop}
@@ -10,6 +10,7 @@ use Rattle.lists.specs.Lists.{checks, onto, LiesAt}
 use Rattle.tapa.specs.Codes.{response}
 use Rattle.tapa.specs.declared.Refusal.the-variants.{ThreadAbove7, NoResponseCode, BufferTooSmall, NotThisPartsMessage}
 use Rattle.message.specs.Message.{readOf, partOf, partStart}
+use Rattle.message.specs.declared.Head.{Head}
 use Rattle.message.specs.declared.Reading.{Reading}
 use Rattle.message.specs.declared.Reading.the-variants.{Message, Refused as Unread}
 use Rattle.cutter.specs.declared.Start.{Start}
@@ -25,15 +26,16 @@ use Rattle.cutter.specs.declared.First.{First}
 -- ---- the start
 
 -- 'Checks at the start: 1, 2, 3, type not 'FF' (15), 5, 6'; the reader makes the first three
-abbrev pub startOn : Reading → Start
-startOn (Unread r) = NotReady r
-startOn (Message h) =
-    checks
-    ((not (eqb (h .kind) response), NotReady NotThisPartsMessage)
+abbrev pub startChecks : Head → List (Bool × Start)
+startChecks h =
+    (not (eqb (h .kind) response), NotReady NotThisPartsMessage)
     ∷ (ltb 7 (h .thread), NotReady ThreadAbove7)
     ∷ (ltb (h .length) 2, NotReady NoResponseCode)
-    ∷ [])
-    (Ready (h .thread))
+    ∷ []
+
+abbrev pub startOn : Reading → Start
+startOn (Unread r) = NotReady r
+startOn (Message h) = checks (startChecks h) (Ready (h .thread))
 
 unfoldable pub startOf : List ℕ → Start
 startOf message = startOn (readOf message)
@@ -83,14 +85,16 @@ commandAt part thread at = commandOf thread (p2At part at) (pieceAt part at)
 
 -- ---- handing out
 
--- 'at each handing out, also after the last: buffer under 254 (9)'; 'After the last command the outcome is done'; else the command's length
-unfoldable pub cutAt : List ℕ → ℕ → List ℕ → Cut
-cutAt part at buffer =
-    checks
-    ((ltb (length buffer) 254, Refused BufferTooSmall)
+-- 'at each handing out, also after the last: buffer under 254 (9)'; 'After the last command the outcome is done'
+abbrev pub cutChecks : List ℕ → ℕ → List ℕ → List (Bool × Cut)
+cutChecks part at buffer =
+    (ltb (length buffer) 254, Refused BufferTooSmall)
     ∷ (leb (length part) at, Done)
-    ∷ [])
-    (Command (6 + length (pieceAt part at)))
+    ∷ []
+
+-- else the command's length
+unfoldable pub cutAt : List ℕ → ℕ → List ℕ → Cut
+cutAt part at buffer = checks (cutChecks part at buffer) (Command (6 + length (pieceAt part at)))
 
 -- the place moves past what was handed out, and is kept otherwise
 abbrev pub placeAfter : Cut → List ℕ → ℕ → ℕ

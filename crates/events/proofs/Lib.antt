@@ -1,5 +1,4 @@
 pub mod Judging
-pub mod Laws
 pub mod Once
 pub mod Replies
 pub mod Sums

@@ -1,9 +1,10 @@
 -- The event queue (section 13): what a message asks of it, what is decided, and what that does. Events stand oldest first.
-use Prim.Native.Nat.{ℕ, _+_}
-use mathlib.Core.Bool.{Bool, true, false, not, _&&_, _||_, cond}
+use Prim.Native.Nat.{ℕ, _+_, _<_}
+use mathlib.Core.Path.{_≡_}
+use mathlib.Core.Bool.{Bool, true, false, not, _||_, cond}
 use mathlib.Core.List.{List, [], _∷_, _++_}
 use mathlib.Core.Option.{Option, none, some}
-use lib.Dec.{eqb, ltb, leb}
+use lib.Dec.{eqb, ltb}
 use lib.ListN.{length, getD}
 use Rattle.lists.specs.Lists.{checks, first, without, onto}
 use Rattle.tapa.specs.Address.{handlerOf}
@@ -15,8 +16,12 @@ use Rattle.message.specs.declared.Head.{Head}
 use Rattle.message.specs.declared.Reading.{Reading}
 use Rattle.message.specs.declared.Reading.the-variants.{Message, Refused as NoMessage}
 use Rattle.message.specs.Message.{readOf, partOf, messageOf}
-use Rattle.events.specs.declared.Event.{Event}
-use Rattle.events.specs.declared.Search.{Search}
+use Rattle.queue.specs.declared.Event.{Event}
+use Rattle.queue.specs.declared.Search.{Search}
+use Rattle.queue.specs.declared.Sought.{Sought}
+use Rattle.queue.specs.declared.Sought.the-variants.{One, Nothing as Nowhere}
+use Rattle.queue.specs.Events.{most, oldest, knownSearch, meets, likeOf, sought}
+use Rattle.queue.specs.Places.{Holds}
 use Rattle.events.specs.declared.Command.{Command}
 use Rattle.events.specs.declared.Command.the-variants.{Add, WrongAdd, Get, Find, Flush, Wrong}
 use Rattle.events.specs.declared.Outcome.{Outcome}
@@ -25,6 +30,7 @@ use Rattle.events.specs.declared.Checked.{Checked}
 use Rattle.events.specs.declared.Checked.the-variants.{Passed, Failed}
 use Rattle.events.specs.declared.Answer.{Answer}
 use Rattle.events.specs.declared.Answer.the-variants.{Reply, Nothing, Refused}
+use Rattle.events.specs.declared.Handled.{Handled}
 
 -- ---- the checks
 
@@ -33,13 +39,19 @@ unfoldable pub elsewhere : Head → Bool
 elsewhere h = not (eqb (handlerOf (h .destination)) eventHandler) || eqb (h .kind) response
 
 -- 'then 1, 2, 3, then destination handler not '0700' or type 'FF' (15)'
+abbrev pub meantChecks : Head → List (Bool × Checked)
+meantChecks h = (elsewhere h, Failed NotThisPartsMessage) ∷ []
+
 abbrev pub meant : Reading → Checked
 meant (NoMessage r) = Failed r
-meant (Message h) = checks ((elsewhere h, Failed NotThisPartsMessage) ∷ []) (Passed h)
+meant (Message h) = checks (meantChecks h) (Passed h)
 
 -- 'Checks: reply buffer under 13 (9)', and then these; 'The thread may be any byte.'
+abbrev pub roomChecks : ℕ → List (Bool × Checked)
+roomChecks room = (ltb room 13, Failed BufferTooSmall) ∷ []
+
 abbrev pub checked : ℕ → List ℕ → Checked
-checked room message = checks ((ltb room 13, Failed BufferTooSmall) ∷ []) (meant (readOf message))
+checked room message = checks (roomChecks room) (meant (readOf message))
 
 -- ---- what is asked
 
@@ -62,53 +74,16 @@ commandOf kind part =
     ∷ [])
     Wrong
 
--- ---- the search, by the table Search Type Coding: bit 1 is by location, bit 2 by type, all others are reserved
-
-abbrev pub byLocation : ℕ
-byLocation = 1
-
-abbrev pub byType : ℕ
-byType = 2
-
-abbrev pub byBoth : ℕ
-byBoth = 3
-
-unfoldable pub knownSearch : ℕ → Bool
-knownSearch by = leb byLocation by && leb by byBoth
-
--- whether an event meets a search; none meets an unknown search type, and bytes that the type does not use are ignored
-unfoldable pub meets : Search → Event → Bool
-meets s e =
-    checks
-    ((eqb (s .by) byLocation, eqb (e .location) (s .wanted .location))
-    ∷ (eqb (s .by) byType, eqb (e .kind) (s .wanted .kind))
-    ∷ (eqb (s .by) byBoth, eqb (e .kind) (s .wanted .kind) && eqb (e .location) (s .wanted .location))
-    ∷ [])
-    false
-
--- the search for an event's like
-abbrev pub likeOf : Event → Search
-likeOf e = record { by = byBoth; wanted = e }
-
 -- ---- what is decided
-
--- 'It holds at most 100 events'
-abbrev pub most : ℕ
-most = 100
-
--- 'oldest first'
-abbrev pub oldest : List Event → Option Event
-oldest [] = none
-oldest (e ∷ es) = some e
 
 abbrev pub isEmpty : List Event → Bool
 isEmpty [] = true
 isEmpty (e ∷ es) = false
 
 -- an event is taken where there is one, else the answer is this code
-abbrev pub takenOr : ℕ → Option Event → Outcome
-takenOr code none = Coded code
-takenOr code (some e) = Taken e
+abbrev pub takenOr : ℕ → Sought → Outcome
+takenOr code Nowhere = Coded code
+takenOr code (One e) = Taken e
 
 unfoldable pub judge : List Event → Command → Outcome
 -- 'Add to a full queue drops the newcomer'
@@ -116,14 +91,14 @@ judge es (Add e) = cond (ltb (length es) most) (Added e) Ignored
 -- 'a wrong Add changes nothing and has no reply'
 judge es WrongAdd = Ignored
 -- 'Get takes the oldest, or 'FF72'.'
-judge es Get = takenOr noEvents (oldest es)
+judge es Get = takenOr noEvents (sought (oldest es))
 -- 'Find takes the oldest that meets its search type (Search Type Coding table): unknown type 'FFFB', empty 'FF72', no match 'FF73', in that order.'
 judge es (Find s) =
     checks
     ((not (knownSearch (s .by)), Coded unsupportedOperation)
     ∷ (isEmpty es, Coded noEvents)
     ∷ [])
-    (takenOr noMatchingEvents (first (meets s) es))
+    (takenOr noMatchingEvents (sought (first (meets s) es)))
 -- 'Flush answers '0000' and empties the queue, also where it was empty.'
 judge es Flush = Emptied
 -- 'gives 'FFFB''
@@ -178,3 +153,24 @@ obeys (Passed h) es part reply = does h (judge es (commandOf (h .kind) part)) es
 
 unfoldable pub handled : List Event → List ℕ → List ℕ → Result
 handled es message reply = obeys (checked (length reply) message) es (partOf message) reply
+
+-- ---- what the functions promise
+
+-- what an outcome asks of the queue: an event is added where there is room
+abbrev pub Allowed : List Event → Outcome → Type 0
+Allowed es (Added e) = length es < most
+Allowed es Ignored = Unit {0}
+Allowed es (Taken e) = Unit {0}
+Allowed es Emptied = Unit {0}
+Allowed es (Coded code) = Unit {0}
+
+-- what a response came to: the answer, and what the lent buffer then holds
+pub record Answers (h : Head) (part : Option (List ℕ)) (before after : List ℕ) (a : Answer) : Type 0 where
+  pub answer : a ≡ answerOf part
+  pub reply : after ≡ replied h part before
+
+-- a call that came to this: its answer and next queue, and what the lent buffer then holds
+pub record Handling (w : Result) (after : List ℕ) (h : Handled) : Type 0 where
+  pub answer : h .answer ≡ w .answer
+  pub next : Holds (h .next) (w .events)
+  pub reply : after ≡ w .reply

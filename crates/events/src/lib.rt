@@ -1,38 +1,21 @@
 // The event queue (section 13): devices post events, and applications take them.
 //
-// A queue goes in by value and comes back by value beside the answer. A message is checked, read
-// as a command, judged against the events that are held, and only then is anything done. What the
-// calls promise speaks of the list of events alone; how they are kept is said in specs/Places.antt.
-use lists::Found;
+// A message is checked, read as a command, judged against the events that are held, and only then
+// is anything done. A queue goes in by value and comes back by value beside the answer. How it
+// keeps its events is the room `queue`'s; what is promised here speaks of the list of them alone.
 use message::Head;
 use message::Reading;
 use message::Writing;
+use queue::Event;
+use queue::Queue;
+use queue::Search;
+use queue::Sought;
 use tapa::Refusal;
 ghost use mathlib.Core.Path.{_≡_};
-ghost use mathlib.Core.List.{[], _++_, _∷_};
-ghost use Prim.Native.Nat.{_+_, _≤_, _<_};
+ghost use Prim.Native.Nat.{_+_, _≤_};
 ghost use lib.ListN.{length};
-ghost use Rattle.lists.specs.Lists.{find, without, withoutAt};
-ghost use Rattle.events.specs.Events.{elsewhere, checked, eventAt, commandOf, knownSearch, meets, likeOf, most, judge, apply, carried, handled};
-ghost use Rattle.events.specs.Places.{Packs, eventIn, eventsOf, Lawful, Holds, Allowed, Answers, Handling};
-
-// A type byte and the address where it happened.
-pub struct Event {
-    pub kind: u8,
-    pub location: u16,
-}
-
-// At most 100 events, oldest first from place 0 on; each is packed into a number.
-pub struct Queue {
-    places: [u32; 100],
-    count: usize,
-}
-
-// What a search is by (Search Type Coding), and what it is for.
-struct Search {
-    by: u8,
-    wanted: Event,
-}
+ghost use Rattle.queue.specs.Places.{eventsOf, Lawful, Holds};
+ghost use Rattle.events.specs.Events.{elsewhere, checked, eventAt, commandOf, takenOr, judge, apply, carried, handled, Allowed, Answers, Handling};
 
 // A message that is the queue's, or why it is not looked at further.
 enum Checked {
@@ -71,13 +54,6 @@ pub struct Handled {
     pub answer: Answer,
     pub next: Queue,
 }
-
-// Search types: bit 1 is by location, bit 2 by type, and all others are reserved.
-const BY_LOCATION: u8 = 1;
-
-const BY_TYPE: u8 = 2;
-
-const BY_BOTH: u8 = 3;
 
 // ---- the checks
 
@@ -157,51 +133,6 @@ fn read_command(kind: u8, part: &[u8]) -> Command
     Command::Wrong
 }
 
-// ---- the search
-
-// Whether a search type has a bit that is known, and none that is reserved.
-fn is_known_search(by: u8) -> bool
-    ensures { λ r. ⌜ r ≡ knownSearch by ⌝ }
-{
-    match by {
-        BY_LOCATION..=BY_BOTH => true,
-        _ => false,
-    }
-}
-
-// Whether an event meets a search. What the search type does not use is not looked at.
-fn is_met(search: Search, event: Event) -> bool
-    ensures { λ r. ⌜ r ≡ meets search event ⌝ }
-{
-    let by = search.by;
-    let there = event.location == search.wanted.location;
-    let alike = event.kind == search.wanted.kind;
-    match by {
-        BY_LOCATION => there,
-        BY_TYPE => alike,
-        BY_BOTH => alike && there,
-        _ => false,
-    }
-}
-
-// ---- an event as a number
-
-// The type above the location: an event takes one place.
-fn pack(event: Event) -> u32
-    ensures { λ r. ⌜ Packs event r ⌝ }
-{
-    event.kind as u32 * 65536 + event.location as u32
-}
-
-fn unpack(x: u32) -> Event
-    ensures { λ r. ⌜ r ≡ eventIn x ⌝ }
-{
-    Event {
-        kind: (x / 65536 % 256) as u8,
-        location: (x % 65536) as u16,
-    }
-}
-
 // ---- the reply
 
 // A response that carries its code alone.
@@ -252,163 +183,84 @@ fn answered(reply: &mut [u8], head: Head, outcome: Outcome) -> Answer
     }
 }
 
-// ---- the queue
+// ---- what a command comes to
 
-// A queue that holds nothing.
-pub fn fresh() -> Queue
-    ensures { λ r. ⌜ Holds r [] ⌝ }
+// The event that was sought, or this code.
+fn taken_or(code: u16, sought: Sought) -> Outcome
+    ensures { λ r. ⌜ r ≡ takenOr code sought ⌝ }
 {
-    Queue {
-        places: [0; 100],
-        count: 0,
+    match sought {
+        Sought::One(event) => Outcome::Taken(event),
+        Sought::Nothing => Outcome::Coded(code),
     }
 }
 
-impl Queue {
-    // The number of the oldest event that meets a search: how many are newer than it.
-    fn find(self, search: Search) -> Found
-        requires { ⌜ Lawful self ⌝ }
-        ensures { λ r. ⌜ r ≡ find (meets search) (eventsOf self) ⌝ }
-    {
-        let n = self.count;
-        let mut newer = n;
-        while 0 < newer {
-            newer -= 1;
-            let place = n - 1 - newer;
-            if is_met(search, unpack(self.places[place])) {
-                return Found::At(newer);
+// Find, in the order of its failures.
+fn judge_find(queue: Queue, search: Search) -> Outcome
+    requires { ⌜ Lawful queue ⌝ }
+    ensures { λ r. ⌜ r ≡ judge (eventsOf queue) (Command.Find search) ⌝ }
+{
+    if !queue::is_known_search(search.by) {
+        return Outcome::Coded(tapa::UNSUPPORTED_OPERATION);
+    }
+    match queue.oldest() {
+        Sought::Nothing => Outcome::Coded(tapa::NO_EVENTS),
+        Sought::One(_) => taken_or(tapa::NO_MATCHING_EVENTS, queue.oldest_met(search)),
+    }
+}
+
+// What a command comes to. Nothing is done yet.
+fn judge(queue: Queue, command: Command) -> Outcome
+    requires { ⌜ Lawful queue ⌝ }
+    ensures { λ r. ⌜ r ≡ judge (eventsOf queue) command ⌝ }
+{
+    match command {
+        Command::Add(event) => {
+            if queue.has_room() {
+                Outcome::Added(event)
+            } else {
+                Outcome::Ignored
             }
         }
-        Found::Nothing
+        Command::WrongAdd => Outcome::Ignored,
+        Command::Get => taken_or(tapa::NO_EVENTS, queue.oldest()),
+        Command::Find(search) => judge_find(queue, search),
+        Command::Flush => Outcome::Emptied,
+        Command::Wrong => Outcome::Coded(tapa::UNSUPPORTED_OPERATION),
     }
+}
 
-    // One event more, where there is room.
-    fn with(self, event: Event) -> Queue
-        requires { ⌜ Lawful self ⌝ }
-        requires { ⌜ self .count < most ⌝ }
-        ensures { λ r. ⌜ Holds r (eventsOf self ++ (event ∷ [])) ⌝ }
-    {
-        let mut next = self;
-        let n = self.count;
-        next.places[n] = pack(event);
-        next.count = n + 1;
-        next
+// Does what was decided.
+fn apply(queue: Queue, outcome: Outcome) -> Queue
+    requires { ⌜ Lawful queue ⌝ }
+    requires { ⌜ Allowed (eventsOf queue) outcome ⌝ }
+    ensures { λ r. ⌜ Holds r (apply outcome (eventsOf queue)) ⌝ }
+{
+    match outcome {
+        Outcome::Added(event) => queue.with(event),
+        Outcome::Ignored => queue,
+        Outcome::Taken(event) => queue.taken(event),
+        Outcome::Emptied => queue::fresh(),
+        Outcome::Coded(_) => queue,
     }
+}
 
-    // The queue without the event that has this many newer ones; those move down, and the last place is freed.
-    fn without(self, newer: usize) -> Queue
-        requires { ⌜ Lawful self ⌝ }
-        requires { ⌜ newer < self .count ⌝ }
-        ensures { λ r. ⌜ Holds r (withoutAt newer (eventsOf self)) ⌝ }
-    {
-        let mut next = self;
-        let n = self.count;
-        let mut left = newer;
-        while 0 < left {
-            next.places[n - 1 - left] = next.places[n - left];
-            left -= 1;
-        }
-        next.places[n - 1] = 0;
-        next.count = n - 1;
-        next
-    }
-
-    // Find, in the order of its failures.
-    fn judge_find(self, search: Search) -> Outcome
-        requires { ⌜ Lawful self ⌝ }
-        ensures { λ r. ⌜ r ≡ judge (eventsOf self) (Command.Find search) ⌝ }
-    {
-        if !is_known_search(search.by) {
-            return Outcome::Coded(tapa::UNSUPPORTED_OPERATION);
-        }
-        let n = self.count;
-        if n == 0 {
-            return Outcome::Coded(tapa::NO_EVENTS);
-        }
-        match self.find(search) {
-            Found::Nothing => Outcome::Coded(tapa::NO_MATCHING_EVENTS),
-            Found::At(newer) => {
-                let place = n - 1 - newer;
-                Outcome::Taken(unpack(self.places[place]))
-            }
-        }
-    }
-
-    // What a command comes to. Nothing is done yet.
-    fn judge(self, command: Command) -> Outcome
-        requires { ⌜ Lawful self ⌝ }
-        ensures { λ r. ⌜ r ≡ judge (eventsOf self) command ⌝ }
-    {
-        let n = self.count;
-        match command {
-            Command::Add(event) => {
-                if n < 100 {
-                    Outcome::Added(event)
-                } else {
-                    Outcome::Ignored
-                }
-            }
-            Command::WrongAdd => Outcome::Ignored,
-            Command::Get => {
-                if n == 0 {
-                    Outcome::Coded(tapa::NO_EVENTS)
-                } else {
-                    Outcome::Taken(unpack(self.places[0]))
-                }
-            }
-            Command::Find(search) => self.judge_find(search),
-            Command::Flush => Outcome::Emptied,
-            Command::Wrong => Outcome::Coded(tapa::UNSUPPORTED_OPERATION),
-        }
-    }
-
-    // The queue without the oldest event of this type and location.
-    fn taken(self, event: Event) -> Queue
-        requires { ⌜ Lawful self ⌝ }
-        ensures { λ r. ⌜ Holds r (without (meets (likeOf event)) (eventsOf self)) ⌝ }
-    {
-        let search = Search {
-            by: BY_BOTH,
-            wanted: event,
-        };
-        match self.find(search) {
-            Found::Nothing => self,
-            Found::At(newer) => self.without(newer),
-        }
-    }
-
-    // Does what was decided.
-    fn apply(self, outcome: Outcome) -> Queue
-        requires { ⌜ Lawful self ⌝ }
-        requires { ⌜ Allowed (eventsOf self) outcome ⌝ }
-        ensures { λ r. ⌜ Holds r (apply outcome (eventsOf self)) ⌝ }
-    {
-        match outcome {
-            Outcome::Added(event) => self.with(event),
-            Outcome::Ignored => self,
-            Outcome::Taken(event) => self.taken(event),
-            Outcome::Emptied => fresh(),
-            Outcome::Coded(_) => self,
-        }
-    }
-
-    // Takes a message, and hands back what it comes to and the next queue.
-    pub fn handle(self, message: &[u8], reply: &mut [u8]) -> Handled
-        requires { ⌜ Lawful self ⌝ }
-        ensures { λ r. ⌜ Handling (handled (eventsOf self) (now (message .entry)) (now (reply .entry))) (now (reply .exit)) r ⌝ }
-    {
-        match check(message, reply.len()) {
-            Checked::Failed(refusal) => Handled {
-                answer: Answer::Refused(refusal),
-                next: self,
-            },
-            Checked::Passed(head) => {
-                let command = read_command(head.kind, message::data_part(message));
-                let outcome = self.judge(command);
-                let next = self.apply(outcome);
-                let answer = answered(reply, head, outcome);
-                Handled { answer, next }
-            }
+// Takes a message, and hands back what it comes to and the next queue.
+pub fn handle(queue: Queue, message: &[u8], reply: &mut [u8]) -> Handled
+    requires { ⌜ Lawful queue ⌝ }
+    ensures { λ r. ⌜ Handling (handled (eventsOf queue) (now (message .entry)) (now (reply .entry))) (now (reply .exit)) r ⌝ }
+{
+    match check(message, reply.len()) {
+        Checked::Failed(refusal) => Handled {
+            answer: Answer::Refused(refusal),
+            next: queue,
+        },
+        Checked::Passed(head) => {
+            let command = read_command(head.kind, message::data_part(message));
+            let outcome = judge(queue, command);
+            let next = apply(queue, outcome);
+            let answer = answered(reply, head, outcome);
+            Handled { answer, next }
         }
     }
 }

@@ -18,7 +18,7 @@ use Rattle.joiner.specs.declared.Whole.{Whole}
 use Rattle.joiner.specs.declared.Whole.the-variants.{Plain, Response}
 use Rattle.joiner.specs.declared.Answer.{Answer}
 use Rattle.joiner.specs.declared.Answer.the-variants.{More, Message}
-use Rattle.joiner.specs.Joining.{counting, dataOf, takingOf, joinedWith, wholeOf, completed, wholeAnswer, wholeBytes, answerOf, nextOf, bufferOf, partFor}
+use Rattle.joiner.specs.Joining.{counting, statusOf, dataOf, takingOf, joinedWith, wholeOf, completed, wholeAnswer, wholeBytes, answerOf, nextOf, bufferOf, partFor}
 use Rattle.joiner.specs.Sending.{together, sent, Small, responseSent, answersBy, joinerBy, bufferBy, Delivers}
 use Rattle.joiner.proofs.Laws.{takes-last, takes-more, whole-longer, whole-plain, whole-response}
 
@@ -33,11 +33,10 @@ module _ (d : List ℕ) (s₁ s₂ : ℕ) where
   piece-data : dataOf piece ≡ d
   piece-data = take-at d (s₁ ∷ s₂ ∷ []) (length piece - 2) (omega (arith, piece-length))
 
-  piece-status : s₁ * 256 + s₂ ≡ getD piece (length piece - 2) 0 * 256 + getD piece (length piece - 1) 0
+  piece-status : statusOf piece ≡ s₁ * 256 + s₂
   piece-status =
-      let e₂ : length piece - 2 ≡ length d = omega (arith, piece-length) in
-      let e₁ : length piece - 1 ≡ length d + 1 = omega (arith, piece-length) in
-      sym ((λ i. getD piece (e₂ i) 0 * 256 + getD piece (e₁ i) 0) ∙ (λ i. getD-at d s₁ (s₂ ∷ []) 0 (length d) refl i * 256 + getD-append-add d (s₁ ∷ s₂ ∷ []) 1 0 i))
+      let e : length piece - 2 ≡ length d = omega (arith, piece-length) in
+      rw (e, getD-at d s₁ (s₂ ∷ []) 0 (length d) refl, getD-append-add d (s₁ ∷ s₂ ∷ []) 1 0)
 
 -- ---- one call
 module _ (j : Joiner) (d b : List ℕ) (small : length d ≤ 252) (fits : j .joined + length d ≤ 1032) (room : 1032 ≤ length b) where
@@ -60,12 +59,12 @@ module _ (j : Joiner) (d b : List ℕ) (small : length d ≤ 252) (fits : j .joi
   is-last : takingOf (j .joined) (p 0x90 0x00) ≡ Last
   is-last =
       let n : length (p 0x90 0x00) ≡ length d + 2 = piece-length d 0x90 0x00 in
-      takes-last (j .joined) (p 0x90 0x00) (omega arith) (omega arith) 0x9000 (piece-status d 0x90 0x00) (λ e. omega (arith, e)) refl (omega arith)
+      takes-last (j .joined) (p 0x90 0x00) (omega arith) (omega arith) (omega arith) (piece-status d 0x90 0x00)
 
   is-more : takingOf (j .joined) (p 0x96 0x01) ≡ NotLast
   is-more =
       let n : length (p 0x96 0x01) ≡ length d + 2 = piece-length d 0x96 0x01 in
-      takes-more (j .joined) (p 0x96 0x01) (omega arith) (omega arith) 0x9601 (piece-status d 0x96 0x01) refl (omega arith)
+      takes-more (j .joined) (p 0x96 0x01) (omega arith) (omega arith) (omega arith) (piece-status d 0x96 0x01)
 
   last-answer : answerOf j (p 0x90 0x00) b ≡ wholeAnswer (wholeOf j joined) joined
   unfolding answerOf
@@ -173,7 +172,7 @@ module _ (j : Joiner) (first : List ℕ) (rest : List (List ℕ)) (b : List ℕ)
   command-delivered destination source kind thread part other t few e =
       let m : List ℕ = messageOf destination source kind thread part in
       delivers Plain m m e (omega arith) (omega arith)
-      (whole-plain j m (omega arith) t (length part) (omega arith) few other (omega arith)) refl refl
+      (whole-plain j m (omega arith) t (omega arith) other (omega arith)) refl refl
 
   -- a response, sent without its code and with its length counting it, arrives with the kept source as its destination and with the code '0000'
   pub response-delivered : (destination source thread : ℕ) (part : List ℕ) → thread ≤ 7 → length part + 2 ≤ 1024
@@ -187,4 +186,4 @@ module _ (j : Joiner) (first : List ℕ) (rest : List (List ℕ)) (b : List ℕ)
       let bytes : completed to m ≡ messageOf to source response thread (part ++ twoBytes successful) =
       ap (λ (k : ℕ). headBytes to source response thread k ++ (part ++ twoBytes successful)) (sym n) in
       delivers (Response to) m (messageOf to source response thread (part ++ twoBytes successful)) e (omega arith) (omega arith)
-      (whole-response j m (omega arith) t (length part + 2) (omega arith) few refl (omega arith) kept) (ap Message (omega arith)) bytes
+      (whole-response j m (omega arith) t (omega arith) refl (omega arith) kept) (ap Message (omega arith)) bytes

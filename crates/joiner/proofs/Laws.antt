@@ -11,14 +11,18 @@ use lib.ListN.{length, take, drop, getD, set, length-append, length-take, length
 use lib.Seq.{length-take-le, sets-eq, drop-append-le, take-at}
 use borrow.Author.Tests.{lt-ltb, le-ltb, le-leb, lt-leb, eq-eqb, ne-eqb, ltb-false, eqb-true}
 use borrow.Rule.Slice.PartMut.{putMid}
-use Rattle.lists.specs.Lists.{onto}
+use Rattle.lists.specs.Lists.{checks, onto}
 use Rattle.lists.proofs.Onto.{onto-then, onto-stores, own-start, onto-over, prefix}
+use Rattle.lists.proofs.Tests.{checks-said}
 use Rattle.tapa.specs.Numbers.{wordAt, twoBytes}
+use Rattle.tapa.specs.Said.{refused, says, written, getNext, joined as hands-on, kept}
 use Rattle.tapa.specs.declared.Refusal.{Refusal}
-use Rattle.tapa.specs.declared.Refusal.the-variants.{TooShort, TooLong, SizeDisagrees, ThreadAbove7, BufferTooSmall, NotThisPartsMessage, NoSourceKept, StatusNotUsable}
-use Rattle.message.specs.Message.{readOf}
-use Rattle.message.specs.declared.Head.{Head}
-use Rattle.message.specs.declared.Reading.the-variants.{Message as Read, Refused as Unread}
+use Rattle.tapa.specs.declared.Refusal.the-variants.{TooShort, TooLong, SizeDisagrees, ThreadAbove7, BufferTooSmall, NoSourceKept, StatusNotUsable}
+use Rattle.message.specs.Message.{headOf}
+use Rattle.message.specs.Said.{saidWriting}
+use Rattle.message.specs.declared.Reading.{Reading}
+use Rattle.message.specs.declared.Writing.the-variants.{Written, Refused as Unwritten}
+use Rattle.message.proofs.Laws.{through-reading}
 use Rattle.joiner.specs.declared.Joiner.{Joiner}
 use Rattle.joiner.specs.declared.Taking.{Taking}
 use Rattle.joiner.specs.declared.Taking.the-variants.{NotLast, Last, Refused as NotTaken}
@@ -26,52 +30,34 @@ use Rattle.joiner.specs.declared.Whole.{Whole}
 use Rattle.joiner.specs.declared.Whole.the-variants.{Plain, Response, Refused as NotWhole}
 use Rattle.joiner.specs.declared.Answer.{Answer}
 use Rattle.joiner.specs.declared.Answer.the-variants.{More, Message, Refused}
-use Rattle.joiner.specs.declared.Keeping.the-variants.{Done, Refused as NotKept}
-use Rattle.joiner.specs.Joining.{counting, withSource, statusOf, dataOf, takingOf, joinedWith, isResponse, dueFor, wholeOf, completed, wholeAnswer, wholeBytes, countTo, answerOf, nextOf, bufferOf, Joins, partFor, keptOf}
+use Rattle.joiner.specs.declared.Keeping.the-variants.{Done}
+use Rattle.joiner.specs.Joining.{counting, statusOf, dataOf, takingChecks, takingOf, joinedWith, isResponse, dueFor, wholeChecks, wholeOf, completed, wholeAnswer, wholeBytes, answerTo, countTo, answerOf, nextOf, bufferOf, Joins, partFor, askingOf, keepChecks, keepingOn, keptOf}
+use Rattle.joiner.specs.Said.{saidAnswer, saidKeeping}
 
 -- ---- one piece
+
+-- its status, as the code reads it
+pub status : (p : List ℕ) → 2 ≤ length p → {s : ℕ} → s ≡ getD p (length p - 2) 0 * 256 + getD p (length p - 1) 0 → statusOf p ≡ s
+status p two e =
+    let k : length p - 2 + 1 ≡ length p - 1 = omega arith in
+    ap (λ (i : ℕ). getD p (length p - 2) 0 * 256 + getD p i 0) k ∙ sym e
+
+-- the code's test of the sum
+pub over : (joined n : ℕ) → 2 ≤ n → n ≤ 254 → 1034 - n < joined → ltb 1032 (joined + (n - 2)) ≡ true
+over joined n two few l = lt-ltb 1032 (joined + (n - 2)) (omega arith)
+
 module _ (joined : ℕ) (p : List ℕ) where
-  pub takes-short : length p < 2 → takingOf joined p ≡ NotTaken TooShort
-  unfolding takingOf
-  takes-short l = rw (lt-ltb (length p) 2 l)
+  module _ (two : 2 ≤ length p) (few : length p ≤ 254) (fits : joined ≤ 1034 - length p) where
+    room : joined + (length p - 2) ≤ 1032
+    room = omega arith
 
-  pub takes-long : 2 ≤ length p → 254 < length p → takingOf joined p ≡ NotTaken TooLong
-  unfolding takingOf
-  takes-long two l = rw (le-ltb (length p) 2 two, lt-ltb 254 (length p) l)
-
-  module _ (two : 2 ≤ length p) (few : length p ≤ 254) (s : ℕ) (e : s ≡ getD p (length p - 2) 0 * 256 + getD p (length p - 1) 0) where
-    status : statusOf p ≡ s
-    status =
-        let k : length p - 2 + 1 ≡ length p - 1 = omega arith in
-        ap (λ (i : ℕ). getD p (length p - 2) 0 * 256 + getD p i 0) k ∙ sym e
-
-    pub takes-unusable : (s ≡ 0x9601 → ⊥) → (s ≡ 0x9000 → ⊥) → takingOf joined p ≡ NotTaken StatusNotUsable
+    pub takes-last : statusOf p ≡ 0x9000 → takingOf joined p ≡ Last
     unfolding takingOf
-    takes-unusable m l = rw (le-ltb (length p) 2 two, le-ltb 254 (length p) few, status, ne-eqb s 0x9601 m, ne-eqb s 0x9000 l)
+    takes-last e = rw (le-ltb (length p) 2 two, le-ltb 254 (length p) few, e, le-ltb 1032 (joined + (length p - 2)) room)
 
-    pub takes-over-last : (s ≡ 0x9601 → ⊥) → s ≡ 0x9000 → 1034 - length p < joined → takingOf joined p ≡ NotTaken TooLong
+    pub takes-more : statusOf p ≡ 0x9601 → takingOf joined p ≡ NotLast
     unfolding takingOf
-    takes-over-last m l o =
-        let over : 1032 < joined + (length p - 2) = omega arith in
-        rw (le-ltb (length p) 2 two, le-ltb 254 (length p) few, status, ne-eqb s 0x9601 m, eq-eqb s 0x9000 l, lt-ltb 1032 (joined + (length p - 2)) over)
-
-    pub takes-last : (s ≡ 0x9601 → ⊥) → s ≡ 0x9000 → joined ≤ 1034 - length p → takingOf joined p ≡ Last
-    unfolding takingOf
-    takes-last m l o =
-        let fits : joined + (length p - 2) ≤ 1032 = omega arith in
-        rw (le-ltb (length p) 2 two, le-ltb 254 (length p) few, status, ne-eqb s 0x9601 m, eq-eqb s 0x9000 l, le-ltb 1032 (joined + (length p - 2)) fits)
-
-    pub takes-over : s ≡ 0x9601 → 1034 - length p < joined → takingOf joined p ≡ NotTaken TooLong
-    unfolding takingOf
-    takes-over m o =
-        let over : 1032 < joined + (length p - 2) = omega arith in
-        rw (le-ltb (length p) 2 two, le-ltb 254 (length p) few, status, eq-eqb s 0x9601 m, lt-ltb 1032 (joined + (length p - 2)) over)
-
-    pub takes-more : s ≡ 0x9601 → joined ≤ 1034 - length p → takingOf joined p ≡ NotLast
-    unfolding takingOf
-    takes-more m o =
-        let fits : joined + (length p - 2) ≤ 1032 = omega arith in
-        rw (le-ltb (length p) 2 two, le-ltb 254 (length p) few, status, eq-eqb s 0x9601 m, le-ltb 1032 (joined + (length p - 2)) fits)
+    takes-more e = rw (le-ltb (length p) 2 two, le-ltb 254 (length p) few, e, le-ltb 1032 (joined + (length p - 2)) room)
 
   -- a piece that is taken has its status, and its data has room
   pub record Taken : Type 0 where
@@ -136,41 +122,16 @@ module _ (m source : ℕ) (b : List ℕ) (two : 2 ≤ m) (room : m + 2 ≤ lengt
 
 -- ---- the whole
 module _ (j : Joiner) (m : List ℕ) where
-  pub whole-short : length m < 8 → wholeOf j m ≡ NotWhole TooShort
-  unfolding wholeOf
-  whole-short l = rw (lt-ltb (length m) 8 l)
-
-  pub whole-high : 8 ≤ length m → 7 < getD m 5 0 → wholeOf j m ≡ NotWhole ThreadAbove7
-  unfolding wholeOf
-  whole-high a t = rw (le-ltb (length m) 8 a, lt-ltb 7 (getD m 5 0) t)
-
-  module _ (a : 8 ≤ length m) (t : getD m 5 0 ≤ 7) (n : ℕ) (e : n ≡ wordAt m 6) where
-    pub whole-long : 1024 < n → wholeOf j m ≡ NotWhole TooLong
+  module _ (a : 8 ≤ length m) (t : getD m 5 0 ≤ 7) (l : wordAt m 6 ≤ 1024) where
+    pub whole-plain : (getD m 4 0 ≡ 255 → ⊥) → wordAt m 6 ≡ length m - 8 → wholeOf j m ≡ Plain
     unfolding wholeOf
-    whole-long l = rw (← e, le-ltb (length m) 8 a, le-ltb 7 (getD m 5 0) t, lt-ltb 1024 n l)
+    whole-plain k u = rw (le-ltb (length m) 8 a, le-ltb 7 (getD m 5 0) t, le-ltb 1024 (wordAt m 6) l, ne-eqb (getD m 4 0) 255 k, eq-eqb (wordAt m 6) (length m - 8) u)
 
-    module _ (l : n ≤ 1024) where
-      module _ (k : getD m 4 0 ≡ 255 → ⊥) where
-        pub whole-uneven : (n ≡ length m - 8 → ⊥) → wholeOf j m ≡ NotWhole SizeDisagrees
-        unfolding wholeOf
-        whole-uneven u = rw (← e, le-ltb (length m) 8 a, le-ltb 7 (getD m 5 0) t, le-ltb 1024 n l, ne-eqb (getD m 4 0) 255 k, ne-eqb n (length m - 8) u)
-
-        pub whole-plain : n ≡ length m - 8 → wholeOf j m ≡ Plain
-        unfolding wholeOf
-        whole-plain u = rw (← e, le-ltb (length m) 8 a, le-ltb 7 (getD m 5 0) t, le-ltb 1024 n l, ne-eqb (getD m 4 0) 255 k, eq-eqb n (length m - 8) u)
-
-      module _ (k : getD m 4 0 ≡ 255) where
-        pub whole-short-code : (n ≡ length m - 8 + 2 → ⊥) → wholeOf j m ≡ NotWhole SizeDisagrees
-        unfolding wholeOf
-        whole-short-code u = rw (← e, le-ltb (length m) 8 a, le-ltb 7 (getD m 5 0) t, le-ltb 1024 n l, eq-eqb (getD m 4 0) 255 k, ne-eqb n (length m - 8 + 2) u)
-
-        pub whole-unkept : n ≡ length m - 8 + 2 → getD (j .kept) (getD m 5 0) false ≡ false → wholeOf j m ≡ NotWhole NoSourceKept
-        unfolding wholeOf
-        whole-unkept u f = rw (← e, le-ltb (length m) 8 a, le-ltb 7 (getD m 5 0) t, le-ltb 1024 n l, eq-eqb (getD m 4 0) 255 k, eq-eqb n (length m - 8 + 2) u, f)
-
-        pub whole-response : n ≡ length m - 8 + 2 → getD (j .kept) (getD m 5 0) false ≡ true → wholeOf j m ≡ Response (getD (j .sources) (getD m 5 0) 0)
-        unfolding wholeOf
-        whole-response u f = rw (← e, le-ltb (length m) 8 a, le-ltb 7 (getD m 5 0) t, le-ltb 1024 n l, eq-eqb (getD m 4 0) 255 k, eq-eqb n (length m - 8 + 2) u, f)
+    pub whole-response : getD m 4 0 ≡ 255 → wordAt m 6 ≡ length m - 8 + 2 → getD (j .kept) (getD m 5 0) false ≡ true
+        → wholeOf j m ≡ Response (getD (j .sources) (getD m 5 0) 0)
+    unfolding wholeOf
+    whole-response k u f =
+        rw (le-ltb (length m) 8 a, le-ltb 7 (getD m 5 0) t, le-ltb 1024 (wordAt m 6) l, eq-eqb (getD m 4 0) 255 k, eq-eqb (wordAt m 6) (length m - 8 + 2) u, f)
 
   -- a response has a head, and there is room for its code
   pub record Complete : Type 0 where
@@ -299,21 +260,52 @@ part-whole a n b e l = prefix n b ∙ sym (rw (e, le-leb n (length b) l))
 pub part-beyond : (a : Answer) (n : ℕ) (b : List ℕ) → a ≡ Message n → length b < n → [] ≡ partFor a b
 part-beyond a n b e l = sym (rw (e, lt-leb n (length b) l))
 
--- ---- keeping
-module _ (j : Joiner) (s : List ℕ) where
-  pub keeps-unread : (r : Refusal) → readOf s ≡ Unread r → keptOf j s ≡ record { answer = NotKept r; next = j }
-  unfolding keptOf
-  keeps-unread r e = rw e
+-- ---- the page's numbers and words, in its order
 
-  module _ (h : Head) (e : readOf s ≡ Read h) where
-    pub keeps-other : (h .kind ≡ 0x42 → ⊥) → keptOf j s ≡ record { answer = NotKept NotThisPartsMessage; next = j }
-    unfolding keptOf
-    keeps-other n = rw (e, ne-eqb (h .kind) 0x42 n)
+-- 'At '9000', with m bytes joined': 1, 5, 2, 3, 17, in this order; else the length of what is handed on, for 'FF' with the code that is appended
+pub said-whole : (j : Joiner) (m : List ℕ) → saidAnswer (wholeAnswer (wholeOf j m) m)
+    ≡ checks
+    ((ltb (length m) 8, refused 1)
+    ∷ (ltb 7 (getD m 5 0), refused 5)
+    ∷ (ltb 1024 (wordAt m 6), refused 2)
+    ∷ (not (eqb (wordAt m 6) (cond (eqb (getD m 4 0) 0xFF) (length m - 8 + 2) (length m - 8))), refused 3)
+    ∷ (eqb (getD m 4 0) 0xFF && not (getD (j .kept) (getD m 5 0) false), refused 17)
+    ∷ (eqb (getD m 4 0) 0xFF, says hands-on ((length m + 2) ∷ []))
+    ∷ [])
+    (says hands-on (length m ∷ []))
+unfolding wholeOf
+said-whole j m = checks-said (λ (w : Whole). saidAnswer (wholeAnswer w m)) (wholeChecks j m) Plain
 
-    pub keeps-high : h .kind ≡ 0x42 → 7 < h .thread → keptOf j s ≡ record { answer = NotKept ThreadAbove7; next = j }
-    unfolding keptOf
-    keeps-high k t = rw (e, eq-eqb (h .kind) 0x42 k, lt-ltb 7 (h .thread) t)
+-- 9, 1, 2, 18, 2, in this order; then '9601' asks for Get Next, and at '9000' the whole is judged
+pub said-join : (j : Joiner) (p b : List ℕ) → saidAnswer (answerOf j p b)
+    ≡ checks
+    ((ltb (length b) 1032, refused 9)
+    ∷ (ltb (length p) 2, refused 1)
+    ∷ (ltb 254 (length p), refused 2)
+    ∷ (not (eqb (statusOf p) 0x9601 || eqb (statusOf p) 0x9000), refused 18)
+    ∷ (ltb 1032 (j .joined + (length p - 2)), refused 2)
+    ∷ (eqb (statusOf p) 0x9601, says getNext [])
+    ∷ [])
+    (saidAnswer (wholeAnswer (wholeOf j (joinedWith (j .joined) p b)) (joinedWith (j .joined) p b)))
+unfolding answerOf takingOf
+said-join j p b =
+    checks-said saidAnswer ((ltb (length b) 1032, Refused BufferTooSmall) ∷ []) (answerTo (takingOf (j .joined) p) j (joinedWith (j .joined) p b))
+    ∙ ap (cond (ltb (length b) 1032) (refused 9))
+    (checks-said (λ (t : Taking). saidAnswer (answerTo t j (joinedWith (j .joined) p b))) (takingChecks (j .joined) p) Last)
 
-    pub keeps : (x : Joiner) → h .kind ≡ 0x42 → h .thread ≤ 7 → x ≡ withSource j (h .thread) (h .source) → keptOf j s ≡ record { answer = Done; next = x }
-    unfolding keptOf
-    keeps x k t ex = rw (e, eq-eqb (h .kind) 0x42 k, le-ltb 7 (h .thread) t, ex)
+-- 1, 2, 3, 15, 5, in this order; else the source is kept
+pub said-keeping : (j : Joiner) (s : List ℕ) → saidKeeping (keptOf j s .answer)
+    ≡ checks
+    ((ltb (length s) 8, refused 1)
+    ∷ (ltb 1024 (wordAt s 6), refused 2)
+    ∷ (not (eqb (length s) (8 + wordAt s 6)), refused 3)
+    ∷ (not (eqb (getD s 4 0) 0x42), refused 15)
+    ∷ (ltb 7 (getD s 5 0), refused 5)
+    ∷ [])
+    (says kept [])
+unfolding keptOf
+said-keeping j s = through-reading (λ (r : Reading). saidKeeping (keepingOn r)) _ s (checks-said saidKeeping (keepChecks (headOf s)) Done)
+
+-- 9; else Get Next is written
+pub said-asking : (b : List ℕ) → saidWriting (askingOf b) ≡ checks ((ltb (length b) 5, refused 9) ∷ []) (says written (5 ∷ []))
+said-asking b = checks-said saidWriting ((ltb (length b) 5, Unwritten BufferTooSmall) ∷ []) (Written 5)

@@ -11,6 +11,7 @@ use Rattle.tapa.specs.Numbers.{wordAt, twoBytes}
 use Rattle.tapa.specs.Codes.{response, iccCommand, successful}
 use Rattle.tapa.specs.declared.Refusal.the-variants.{TooShort, TooLong, SizeDisagrees, ThreadAbove7, BufferTooSmall, NotThisPartsMessage, NoSourceKept, StatusNotUsable}
 use Rattle.message.specs.Message.{readOf}
+use Rattle.message.specs.declared.Head.{Head}
 use Rattle.message.specs.declared.Reading.{Reading}
 use Rattle.message.specs.declared.Reading.the-variants.{Message as Read, Refused as Unread}
 use Rattle.message.specs.declared.Writing.{Writing}
@@ -51,16 +52,17 @@ abbrev pub dataOf : List ℕ → List ℕ
 dataOf piece = take (length piece - 2) piece
 
 -- 'piece under 2 (1); over 254 (2); status neither '9601' nor '9000' (18); sum over 1,032 (2)'
-unfoldable pub takingOf : ℕ → List ℕ → Taking
-takingOf joined piece =
-    checks
-    ((ltb (length piece) 2, NotTaken TooShort)
+abbrev pub takingChecks : ℕ → List ℕ → List (Bool × Taking)
+takingChecks joined piece =
+    (ltb (length piece) 2, NotTaken TooShort)
     ∷ (ltb 254 (length piece), NotTaken TooLong)
     ∷ (not (eqb (statusOf piece) 0x9601 || eqb (statusOf piece) 0x9000), NotTaken StatusNotUsable)
     ∷ (ltb 1032 (joined + (length piece - 2)), NotTaken TooLong)
     ∷ (eqb (statusOf piece) 0x9601, NotLast)
-    ∷ [])
-    Last
+    ∷ []
+
+unfoldable pub takingOf : ℕ → List ℕ → Taking
+takingOf joined piece = checks (takingChecks joined piece) Last
 
 -- 'Each piece's data is written into the lent buffer from where the last ended': what is joined by then
 abbrev pub joinedWith : ℕ → List ℕ → List ℕ → List ℕ
@@ -79,17 +81,18 @@ abbrev pub dueFor : List ℕ → ℕ
 dueFor m = cond (isResponse m) (length m - 8 + 2) (length m - 8)
 
 -- 'm under 8 (1); thread above 7 (5)'; 'A length over 1,024 is 2, tested before 3; 17 comes last'
-unfoldable pub wholeOf : Joiner → List ℕ → Whole
-wholeOf j m =
-    checks
-    ((ltb (length m) 8, NotWhole TooShort)
+abbrev pub wholeChecks : Joiner → List ℕ → List (Bool × Whole)
+wholeChecks j m =
+    (ltb (length m) 8, NotWhole TooShort)
     ∷ (ltb 7 (threadOf m), NotWhole ThreadAbove7)
     ∷ (ltb 1024 (wordAt m 6), NotWhole TooLong)
     ∷ (not (eqb (wordAt m 6) (dueFor m)), NotWhole SizeDisagrees)
     ∷ (isResponse m && not (getD (j .kept) (threadOf m) false), NotWhole NoSourceKept)
     ∷ (isResponse m, Response (getD (j .sources) (threadOf m) 0))
-    ∷ [])
-    Plain
+    ∷ []
+
+unfoldable pub wholeOf : Joiner → List ℕ → Whole
+wholeOf j m = checks (wholeChecks j m) Plain
 
 -- 'For 'FF' the destination becomes the source kept from the thread's last '42' command .., and '0000' is appended.'
 unfoldable pub completed : ℕ → List ℕ → List ℕ
@@ -164,20 +167,24 @@ abbrev pub getNextBytes : ℕ → List ℕ
 getNextBytes thread = 0xB0 ∷ 0xFC ∷ thread ∷ 0x00 ∷ 0x00 ∷ []
 
 -- a buffer under the command's 5 bytes is 9, and stays as it is; else the command's length
+abbrev pub askingOf : List ℕ → Writing
+askingOf buffer = cond (ltb (length buffer) 5) (Unwritten BufferTooSmall) (Written 5)
+
 pub record Asks (thread : ℕ) (before after : List ℕ) (w : Writing) : Type 0 where
-  pub answer : w ≡ cond (ltb (length before) 5) (Unwritten BufferTooSmall) (Written 5)
+  pub answer : w ≡ askingOf before
   pub buffer : after ≡ cond (ltb (length before) 5) before (onto (getNextBytes thread) before)
 
 -- ---- 'Keeping a source takes a message: 1, 2, 3, type not '42' (15), 5.'
 
+abbrev pub keepChecks : Head → List (Bool × Keeping)
+keepChecks h =
+    (not (eqb (h .kind) iccCommand), NotKept NotThisPartsMessage)
+    ∷ (ltb 7 (h .thread), NotKept ThreadAbove7)
+    ∷ []
+
 abbrev pub keepingOn : Reading → Keeping
 keepingOn (Unread r) = NotKept r
-keepingOn (Read h) =
-    checks
-    ((not (eqb (h .kind) iccCommand), NotKept NotThisPartsMessage)
-    ∷ (ltb 7 (h .thread), NotKept ThreadAbove7)
-    ∷ [])
-    Done
+keepingOn (Read h) = checks (keepChecks h) Done
 
 -- the message's source is kept for its thread; a refusal touches nothing
 abbrev pub keeperOn : Reading → Keeping → Joiner → Joiner

@@ -2,7 +2,7 @@
 use Prim.Native.Nat.{ℕ}
 use mathlib.Core.Path.{_≡_, refl, sym, _∙_}
 use mathlib.Core.Bool.{Bool, true, false, _||_, _&&_}
-use mathlib.Core.List.{List, [], _∷_, _++_}
+use mathlib.Core.List.{List, [], _∷_, _++_, map}
 use native.Mathlib.Omega.{arith}
 use lib.Dec.{eqb}
 use borrow.Author.Tests.{eqb-true, eqb-false, eq-eqb, ne-eqb}
@@ -59,3 +59,12 @@ module _ {A : Type 0} where
   pub checks-skip : (ts us : List (Bool × A)) (b : Bool) (n a : A) → b ≡ false → checks (ts ++ (b, n) ∷ us) a ≡ checks (ts ++ us) a
   checks-skip [] us b n a p = rw p
   checks-skip (t ∷ ts) us b n a p = split (t .0) (λ q. rw q) (λ q. rw q (checks-skip ts us b n a p))
+
+-- what is said of what the checks decide is said of each check's outcome
+module _ {A B : Type 0} (f : A → B) where
+  abbrev pub saidOf : Bool × A → Bool × B
+  saidOf t = (t .0, f (t .1))
+
+  pub checks-said : (ts : List (Bool × A)) (a : A) → f (checks ts a) ≡ checks (map saidOf ts) (f a)
+  checks-said [] a = refl
+  checks-said (t ∷ ts) a = split (t .0) (λ p. rw p) (λ p. rw p (checks-said ts a))

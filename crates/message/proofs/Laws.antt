@@ -1,39 +1,51 @@
 -- Laws of the message's definitions: what a reading and a writing answer, check by check.
-use Prim.Native.Nat.{ℕ, zero, suc, _+_, _*_, _-_, _/_, _%_, _≤_, _<_}
-use mathlib.Core.Path.{_≡_, refl, sym, ap, _∙_}
+use Prim.Native.Nat.{ℕ, _+_, _*_, _-_, _≤_}
+use mathlib.Core.Path.{_≡_, refl, sym}
 use mathlib.Core.Bool.{Bool, true, false, not, cond}
 use mathlib.Core.List.{List, [], _∷_, _++_}
-use native.Mathlib.Nat.{le-of-eq}
 use native.Mathlib.Omega.{arith}
 use lib.Dec.{eqb, ltb}
-use lib.ListN.{length, take, drop, getD, length-append, length-drop, drop-of-length-le}
+use lib.ListN.{length, take, drop, getD, length-drop}
 use lib.Seq.{take-all}
-use borrow.Author.Tests.{lt-ltb, le-ltb, eq-eqb, ne-eqb, ltb-true, ltb-false, eqb-true, not-false}
-use borrow.Rule.Slice.PartMut.{putMid}
-use Rattle.lists.specs.Lists.{onto}
-use Rattle.tapa.specs.Numbers.{wordAt, twoBytes}
+use borrow.Author.Tests.{le-ltb, eq-eqb, ltb-false, eqb-true}
+use Rattle.lists.specs.Lists.{checks, onto}
+use Rattle.lists.proofs.Tests.{checks-said}
+use Rattle.tapa.specs.Numbers.{wordAt}
+use Rattle.tapa.specs.Said.{refused, says, read, code, written}
 use Rattle.tapa.specs.declared.Refusal.{Refusal}
-use Rattle.tapa.specs.declared.Refusal.the-variants.{TooShort, TooLong, SizeDisagrees, BufferTooSmall}
+use Rattle.tapa.specs.declared.Refusal.the-variants.{TooShort, TooLong, SizeDisagrees}
 use Rattle.message.specs.declared.Head.{Head}
 use Rattle.message.specs.declared.Reading.{Reading}
 use Rattle.message.specs.declared.Reading.the-variants.{Message, Refused}
-use Rattle.message.specs.declared.Writing.{Writing}
+use Rattle.message.specs.declared.Coded.the-variants.{Code, Missing}
 use Rattle.message.specs.declared.Writing.the-variants.{Written, Refused as WriteRefused}
-use Rattle.message.specs.Message.{headOf, readOf, reads, partOf, headBytes, messageOf, writingOf, Wrote}
+use Rattle.message.specs.Message.{headOf, readChecks, readOf, partOf, codeOf, headBytes, messageOf, writeChecks, writingOf, Wrote}
+use Rattle.message.specs.Said.{saidReading, saidCode, saidWriting}
 
 -- ---- reading
+
+-- whatever is said of a reading, 1, 2 and 3 come first
+pub through-reading : {A : Type 0} (f : Reading → A) (a : A) (s : List ℕ) → f (Message (headOf s)) ≡ a
+    → f (readOf s)
+    ≡ checks
+    ((ltb (length s) 8, f (Refused TooShort))
+    ∷ (ltb 1024 (wordAt s 6), f (Refused TooLong))
+    ∷ (not (eqb (length s) (8 + wordAt s 6)), f (Refused SizeDisagrees))
+    ∷ [])
+    a
+unfolding readOf
+through-reading f a s e = rw (← e) (checks-said f (readChecks s) (Message (headOf s)))
+
 module _ (s : List ℕ) where
-  pub reads-short : length s < 8 → readOf s ≡ Refused TooShort
-  unfolding readOf
-  reads-short h = rw (lt-ltb (length s) 8 h)
-
-  pub reads-long : 8 ≤ length s → 1024 < wordAt s 6 → readOf s ≡ Refused TooLong
-  unfolding readOf
-  reads-long h l = rw (le-ltb (length s) 8 h, lt-ltb 1024 (wordAt s 6) l)
-
-  pub reads-uneven : 8 ≤ length s → wordAt s 6 ≤ 1024 → (length s ≡ 8 + wordAt s 6 → ⊥) → readOf s ≡ Refused SizeDisagrees
-  unfolding readOf
-  reads-uneven h l n = rw (le-ltb (length s) 8 h, le-ltb 1024 (wordAt s 6) l, ne-eqb (length s) (8 + wordAt s 6) n)
+  -- 1, 2, 3, in this order; else the message's fields
+  pub said-reading : saidReading (readOf s)
+      ≡ checks
+      ((ltb (length s) 8, refused 1)
+      ∷ (ltb 1024 (wordAt s 6), refused 2)
+      ∷ (not (eqb (length s) (8 + wordAt s 6)), refused 3)
+      ∷ [])
+      (says read (wordAt s 0 ∷ wordAt s 2 ∷ getD s 4 0 ∷ getD s 5 0 ∷ wordAt s 6 ∷ []))
+  said-reading = through-reading saidReading _ s refl
 
   pub reads-whole : 8 ≤ length s → wordAt s 6 ≤ 1024 → length s ≡ 8 + wordAt s 6 → readOf s ≡ Message (headOf s)
   unfolding readOf
@@ -81,23 +93,22 @@ module _ (s : List ℕ) where
   unfolding partOf
   part-of-none r e = rw e
 
+-- the code; 6 where there is none
+pub said-code : (part : List ℕ) → saidCode (codeOf part) ≡ checks ((ltb (length part) 2, refused 6) ∷ []) (says code (wordAt part (length part - 2) ∷ []))
+unfolding codeOf
+said-code part = checks-said saidCode ((ltb (length part) 2, Missing) ∷ []) (Code (wordAt part (length part - 2)))
+
 -- ---- writing
 module _ (part buffer : List ℕ) where
-  pub writes-long : 1024 < length part → writingOf part buffer ≡ WriteRefused TooLong
+  -- 2, 9, in this order; else the message's length
+  pub said-writing : saidWriting (writingOf part buffer)
+      ≡ checks ((ltb 1024 (length part), refused 2) ∷ (ltb (length buffer) (8 + length part), refused 9) ∷ []) (says written ((8 + length part) ∷ []))
   unfolding writingOf
-  writes-long h = rw (lt-ltb 1024 (length part) h)
-
-  pub writes-none : length part ≤ 1024 → length buffer < 8 + length part → writingOf part buffer ≡ WriteRefused BufferTooSmall
-  unfolding writingOf
-  writes-none h l = rw (le-ltb 1024 (length part) h, lt-ltb (length buffer) (8 + length part) l)
+  said-writing = checks-said saidWriting (writeChecks part buffer) (Written (8 + length part))
 
   pub writes : length part ≤ 1024 → 8 + length part ≤ length buffer → writingOf part buffer ≡ Written (8 + length part)
   unfolding writingOf
   writes h l = rw (le-ltb 1024 (length part) h, le-ltb (length buffer) (8 + length part) l)
-
-  -- a refusal leaves every byte
-  pub wrote-none : (d s k t : ℕ) (r : Refusal) → writingOf part buffer ≡ WriteRefused r → Wrote d s k t part buffer buffer (WriteRefused r)
-  wrote-none d s k t r e = record { answer = sym e; buffer = rw e }
 
   pub wrote-all : (d s k t : ℕ) (after : List ℕ) → length part ≤ 1024 → 8 + length part ≤ length buffer
       → after ≡ onto (headBytes d s k t (length part) ++ part) buffer → Wrote d s k t part buffer after (Written (8 + length part))

@@ -31,14 +31,15 @@ headOf s = record {
 }
 
 -- 'The reader checks 1, 2, 3'
-unfoldable pub readOf : List ℕ → Reading
-readOf s =
-    checks
-    ((ltb (length s) 8, Refused TooShort)
+abbrev pub readChecks : List ℕ → List (Bool × Reading)
+readChecks s =
+    (ltb (length s) 8, Refused TooShort)
     ∷ (ltb 1024 (wordAt s 6), Refused TooLong)
     ∷ (not (eqb (length s) (8 + wordAt s 6)), Refused SizeDisagrees)
-    ∷ [])
-    (Message (headOf s))
+    ∷ []
+
+unfoldable pub readOf : List ℕ → Reading
+readOf s = checks (readChecks s) (Message (headOf s))
 
 -- whether a reading is a message
 abbrev pub reads : Reading → Bool
@@ -81,14 +82,16 @@ headBytes destination source kind thread long =
 unfoldable pub messageOf : ℕ → ℕ → ℕ → ℕ → List ℕ → List ℕ
 messageOf destination source kind thread part = headBytes destination source kind thread (length part) ++ part
 
--- 'the writer checks data over 1,024 (2), then a buffer under 8 + data (9)'; else the message's length
-unfoldable pub writingOf : List ℕ → List ℕ → Writing
-writingOf part buffer =
-    checks
-    ((ltb 1024 (length part), WriteRefused TooLong)
+-- 'the writer checks data over 1,024 (2), then a buffer under 8 + data (9)'
+abbrev pub writeChecks : List ℕ → List ℕ → List (Bool × Writing)
+writeChecks part buffer =
+    (ltb 1024 (length part), WriteRefused TooLong)
     ∷ (ltb (length buffer) (8 + length part), WriteRefused BufferTooSmall)
-    ∷ [])
-    (Written (8 + length part))
+    ∷ []
+
+-- else the message's length
+unfoldable pub writingOf : List ℕ → List ℕ → Writing
+writingOf part buffer = checks (writeChecks part buffer) (Written (8 + length part))
 
 -- 'bytes after the message stay'; a refusal leaves every byte
 abbrev pub afterWriting : Writing → List ℕ → List ℕ → List ℕ

@@ -12,7 +12,7 @@ use Rattle.lists.specs.Lists.{someOf, find, onto}
 use Rattle.lists.proofs.Tests.{differ, checks-are}
 use Rattle.lists.proofs.Numbers.{find-none}
 use Rattle.tapa.specs.Address.{categoryOf, handlerOf}
-use Rattle.tapa.specs.Types.{known}
+use Rattle.types.specs.Types.{known}
 use Rattle.tapa.specs.Codes.{invalidDestination, handlerError, handlerBusy, insufficientResources, mustBeOpened, unsupportedOperation}
 use Rattle.message.specs.declared.Head.{Head}
 use Rattle.message.specs.Message.{responded, responseOf}

@@ -246,7 +246,7 @@ fn rule_for<'a>(
     if !table::is_listed(addresses, opens, count, handler) {
         return Ruling::Back(tapa::INVALID_DESTINATION);
     }
-    if !tapa::is_known(tapa::category(head.destination), head.kind) {
+    if !types::is_known(tapa::category(head.destination), head.kind) {
         return Ruling::Back(tapa::UNSUPPORTED_OPERATION);
     }
     if is_closed(addresses, opens, count, handler, head.kind) {

@@ -12,7 +12,7 @@ use Rattle.lists.proofs.Tests.{split, differ, checks-are}
 use Rattle.lists.proofs.First.{first-yes, first-strong}
 use Rattle.tapa.specs.Address.{categoryOf, handlerOf}
 use Rattle.tapa.specs.Codes.{response, openHandler, eventHandler}
-use Rattle.tapa.specs.Types.{known}
+use Rattle.types.specs.Types.{known}
 use Rattle.tapa.specs.declared.Refusal.the-variants.{NotInTable, StandsInAWait}
 use Rattle.message.specs.declared.Head.{Head}
 use Rattle.message.specs.declared.Reading.{Reading}

@@ -13,7 +13,7 @@ use Rattle.lists.proofs.First.{first-yes, first-strong}
 use Rattle.lists.proofs.Numbers.{end-found, change-found}
 use Rattle.tapa.specs.Address.{categoryOf, handlerOf}
 use Rattle.tapa.specs.Codes.{invalidDestination, handlerError, handlerBusy, insufficientResources, mustBeOpened, unsupportedOperation, response, openHandler}
-use Rattle.tapa.specs.Types.{known}
+use Rattle.types.specs.Types.{known}
 use Rattle.tapa.specs.declared.Refusal.{Refusal}
 use Rattle.tapa.specs.declared.Refusal.the-variants.{NotInTable, ThreadAbove7, NoResponseCode, StrayResponse, WrongAsker, BufferTooSmall, NothingToGiveUp, StandsInAWait}
 use Rattle.message.specs.declared.Head.{Head}

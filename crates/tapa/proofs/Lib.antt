@@ -1,1 +1,1 @@
-pub mod Stretch
+pub mod Numbers

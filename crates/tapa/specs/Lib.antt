@@ -3,4 +3,3 @@ pub mod Codes
 pub mod Numbers
 pub mod Refusals
 pub mod Said
-pub mod Types

@@ -9,7 +9,6 @@ ghost use mathlib.Core.Path.{_≡_};
 ghost use Prim.Native.Nat.{_+_, _*_};
 ghost use Rattle.tapa.specs.Address.{categoryOf, handlerOf, multi};
 ghost use Rattle.tapa.specs.Refusals.{numberOf};
-ghost use Rattle.tapa.specs.Types.{common, own, known};
 
 // The refusals 1 to 18, in the page's order.
 pub enum Refusal {
@@ -69,6 +68,23 @@ pub const OPEN_HANDLER: u8 = 0xF0;
 
 pub const CLOSE_HANDLER: u8 = 0xF1;
 
+// Categories of handlers (Table 2).
+pub const PSAM: u8 = 0x00;
+
+pub const TILL_DRIVER: u8 = 0x01;
+
+pub const CARD: u8 = 0x02;
+
+pub const USER_INTERFACE: u8 = 0x03;
+
+pub const MERCHANT: u8 = 0x04;
+
+pub const DATA_STORE: u8 = 0x05;
+
+pub const COMMUNICATION: u8 = 0x06;
+
+pub const EVENT: u8 = 0x07;
+
 // The one address that category 07 may have.
 pub const EVENT_HANDLER: u16 = 0x0700;
 
@@ -123,64 +139,4 @@ pub fn is_multi(address: u16) -> bool
     ensures { λ r. ⌜ r ≡ multi address ⌝ }
 {
     address / 256 <= 1
-}
-
-// Whether a type is handler-independent (section 4.4): every category knows these.
-fn is_common(kind: u8) -> bool
-    ensures { λ r. ⌜ r ≡ common kind ⌝ }
-{
-    match kind {
-        0xF0..=0xF1 | 0xF3..=0xF5 => true,
-        _ => false,
-    }
-}
-
-// Whether a type is one of a category's own.
-fn is_own(category: u8, kind: u8) -> bool
-    ensures { λ r. ⌜ r ≡ own category kind ⌝ }
-{
-    match category {
-        0 => match kind {
-            0x42..=0x45 | 0x47..=0x48 => true,
-            _ => false,
-        },
-        2 => match kind {
-            0x40..=0x47 => true,
-            _ => false,
-        },
-        3 => match kind {
-            0x60..=0x61 | 0x63..=0x6A | 0x6C | 0x80 | 0x82 => true,
-            _ => false,
-        },
-        4 => match kind {
-            0x61 | 0x63..=0x64 | 0x80..=0x82 => true,
-            _ => false,
-        },
-        5 => match kind {
-            0x90..=0x98 => true,
-            _ => false,
-        },
-        6 => match kind {
-            0xB0..=0xB1 => true,
-            _ => false,
-        },
-        7 => match kind {
-            0xC0..=0xC3 => true,
-            _ => false,
-        },
-        _ => false,
-    }
-}
-
-// Whether the handlers of a category know a message type (Tables 4 to 6).
-pub fn is_known(category: u8, kind: u8) -> bool
-    ensures { λ r. ⌜ r ≡ known category kind ⌝ }
-{
-    if is_own(category, kind) {
-        return true;
-    }
-    if category <= 7 {
-        return is_common(kind);
-    }
-    false
 }

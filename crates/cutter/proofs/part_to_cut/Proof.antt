@@ -5,26 +5,8 @@ use borrow.Author.Needs.{needs}
 use Rattle.cutter.proofs.part_to_cut.Statement.{statement}
 use Rattle.cutter.proofs.part_to_cut.Tie as tie
 
-start-check-requires : tie.Need-start-check-requires
-start-check-requires c κs = search needs
-
 enum-told : tie.Need-enum-told
 enum-told c = search needs
-
-data-part-requires : tie.Need-data-part-requires
-data-part-requires c κs = search needs
-
-enum-told-2 : tie.Need-enum-told-2
-enum-told-2 c = search needs
-
-sub-result : tie.Need-sub-result
-sub-result c = search needs
-
-part-result-start : tie.Need-part-result-start
-part-result-start c = search needs
-
-part-result-end : tie.Need-part-result-end
-part-result-end c = search needs
 
 returns : tie.Need-returns
 returns c =
@@ -43,12 +25,12 @@ pub part-to-cut-spec : {M : Type 1} → statement M
 part-to-cut-spec =
     tie.close
     (tie.spec
-    start-check-requires
+    (λ c κs. search needs)
     enum-told
-    data-part-requires
-    enum-told-2
-    sub-result
-    part-result-start
-    part-result-end
+    (λ c κs. search needs)
+    (λ c. search needs)
+    (λ c. search needs)
+    (λ c. search needs)
+    (λ c. search needs)
     returns
     returns-2)

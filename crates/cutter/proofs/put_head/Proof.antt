@@ -7,9 +7,6 @@ use borrow.Author.Needs.{needs}
 use Rattle.cutter.proofs.put_head.Statement.{statement}
 use Rattle.cutter.proofs.put_head.Tie as tie
 
-slice-write-buffer : tie.Need-slice-write-buffer
-slice-write-buffer c = search needs
-
 slice-write-buffer-2 : tie.Need-slice-write-buffer-2
 slice-write-buffer-2 c = simp length-set (omega arith)
 
@@ -22,9 +19,6 @@ slice-write-buffer-4 c = simp length-set (omega arith)
 slice-write-buffer-5 : tie.Need-slice-write-buffer-5
 slice-write-buffer-5 c = simp length-set (omega arith)
 
-same-length : tie.Need-same-length
-same-length c = search needs
-
 returns : tie.Need-returns
 returns c = sets-eq (commandHead (c .args .thread) (c .args .p2) (c .args .count)) (c .args .buffer .now) 0 (c .pre)
 
@@ -32,10 +26,10 @@ pub put-head-spec : {M : Type 1} → statement M
 put-head-spec =
     tie.close
     (tie.spec
-    slice-write-buffer
+    (λ c. search needs)
     slice-write-buffer-2
     slice-write-buffer-3
     slice-write-buffer-4
     slice-write-buffer-5
-    same-length
+    (λ c. search needs)
     returns)

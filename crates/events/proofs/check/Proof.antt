@@ -8,18 +8,6 @@ use Rattle.events.proofs.check.Tie as tie
 returns : tie.Need-returns
 returns c = sym (rw (lt-ltb _ 13 (c .if1 .taken)))
 
-read-requires : tie.Need-read-requires
-read-requires c κs = search needs
-
-enum-known-refusal : tie.Need-enum-known-refusal
-enum-known-refusal c = search needs
-
-enum-known-head : tie.Need-enum-known-head
-enum-known-head c = search needs
-
-is-elsewhere-requires : tie.Need-is-elsewhere-requires
-is-elsewhere-requires c κs = search needs
-
 returns-2 : tie.Need-returns-2
 returns-2 c =
     let s = c .before .before .before .before .before .before in
@@ -40,10 +28,10 @@ check-spec =
     tie.close
     (tie.spec
     returns
-    read-requires
-    enum-known-refusal
-    enum-known-head
-    is-elsewhere-requires
+    (λ c κs. search needs)
+    (λ c. search needs)
+    (λ c. search needs)
+    (λ c κs. search needs)
     returns-2
     returns-3
     returns-4)

@@ -6,9 +6,6 @@ use borrow.Author.Needs.{needs}
 use Rattle.events.proofs.is_elsewhere.Statement.{statement}
 use Rattle.events.proofs.is_elsewhere.Tie as tie
 
-handler-requires : tie.Need-handler-requires
-handler-requires c κs = search needs
-
 returns : tie.Need-returns
 unfolding elsewhere
 returns c = sym (rw (eq-eqb _ _ (sym (c .before .before .handler .ensures) ∙ c .before .if1 .taken)))
@@ -18,4 +15,4 @@ unfolding elsewhere
 returns-2 c = sym (rw (ne-eqb _ _ (λ e. c .if1 .left (c .before .handler .ensures ∙ e))))
 
 pub is-elsewhere-spec : {M : Type 1} → statement M
-is-elsewhere-spec = tie.close (tie.spec handler-requires returns returns-2)
+is-elsewhere-spec = tie.close (tie.spec (λ c κs. search needs) returns returns-2)

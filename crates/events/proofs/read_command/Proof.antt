@@ -5,9 +5,6 @@ use borrow.Author.Needs.{needs}
 use Rattle.events.proofs.read_command.Statement.{statement}
 use Rattle.events.proofs.read_command.Tie as tie
 
-event-at-requires : tie.Need-event-at-requires
-event-at-requires c κs = search needs
-
 returns : tie.Need-returns
 unfolding commandOf
 returns c = rw (c .event-at .ensures, c .before .before .if1 .taken, eq-eqb _ 3 (c .before .if2 .taken))
@@ -23,12 +20,6 @@ returns-3 c = rw (c .before .if3 .taken, eq-eqb _ 0 (c .if4 .taken))
 returns-4 : tie.Need-returns-4
 unfolding commandOf
 returns-4 c = rw (c .before .if3 .taken, ne-eqb _ 0 (c .if4 .left))
-
-shared-slice-read-t10 : tie.Need-shared-slice-read-t10
-shared-slice-read-t10 c = search needs
-
-event-at-requires-2 : tie.Need-event-at-requires-2
-event-at-requires-2 c κs = search needs
 
 returns-5 : tie.Need-returns-5
 unfolding commandOf
@@ -54,13 +45,13 @@ pub read-command-spec : {M : Type 1} → statement M
 read-command-spec =
     tie.close
     (tie.spec
-    event-at-requires
+    (λ c κs. search needs)
     returns
     returns-2
     returns-3
     returns-4
-    shared-slice-read-t10
-    event-at-requires-2
+    (λ c. search needs)
+    (λ c κs. search needs)
     returns-5
     returns-6
     returns-7

@@ -6,29 +6,14 @@ use borrow.Author.Needs.{needs}
 use Rattle.joiner.proofs.complete.Statement.{statement}
 use Rattle.joiner.proofs.complete.Tie as tie
 
-cast-buffer : tie.Need-cast-buffer
-cast-buffer c = search needs
-
-slice-write-buffer : tie.Need-slice-write-buffer
-slice-write-buffer c = search needs
-
-cast-buffer-2 : tie.Need-cast-buffer-2
-cast-buffer-2 c = search needs
-
 slice-write-buffer-2 : tie.Need-slice-write-buffer-2
 slice-write-buffer-2 c = simp length-set (omega arith)
 
 slice-write-buffer-3 : tie.Need-slice-write-buffer-3
 slice-write-buffer-3 c = simp length-set (omega arith)
 
-add-buffer : tie.Need-add-buffer
-add-buffer c = search needs
-
 slice-write-buffer-4 : tie.Need-slice-write-buffer-4
 slice-write-buffer-4 c = simp length-set (omega arith)
-
-same-length : tie.Need-same-length
-same-length c = search needs
 
 returns : tie.Need-returns
 returns c = four-stores (c .args .m) (c .args .source) (c .args .buffer .now) (c .pre .0) (c .pre .1)
@@ -37,12 +22,12 @@ pub complete-spec : {M : Type 1} → statement M
 complete-spec =
     tie.close
     (tie.spec
-    cast-buffer
-    slice-write-buffer
-    cast-buffer-2
+    (λ c. search needs)
+    (λ c. search needs)
+    (λ c. search needs)
     slice-write-buffer-2
     slice-write-buffer-3
-    add-buffer
+    (λ c. search needs)
     slice-write-buffer-4
-    same-length
+    (λ c. search needs)
     returns)

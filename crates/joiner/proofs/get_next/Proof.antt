@@ -11,9 +11,6 @@ use Rattle.joiner.proofs.get_next.Tie as tie
 returns : tie.Need-returns
 returns c = record { answer = rw (lt-ltb _ _ (c .if1 .taken)); buffer = rw (lt-ltb _ _ (c .if1 .taken)) }
 
-slice-write-buffer : tie.Need-slice-write-buffer
-slice-write-buffer c = search needs
-
 slice-write-buffer-2 : tie.Need-slice-write-buffer-2
 slice-write-buffer-2 c = simp length-set (omega arith)
 
@@ -23,12 +20,6 @@ slice-write-buffer-3 c = simp length-set (omega arith)
 slice-write-buffer-4 : tie.Need-slice-write-buffer-4
 slice-write-buffer-4 c = simp length-set (omega arith)
 
-slice-write-buffer-5 : tie.Need-slice-write-buffer-5
-slice-write-buffer-5 c = search needs
-
-same-length : tie.Need-same-length
-same-length c = search needs
-
 returns-2 : tie.Need-returns-2
 returns-2 c = record { answer = rw (le-ltb _ _ (c .if1 .left)); buffer = rw (le-ltb _ _ (c .if1 .left)) (sets-eq (getNextBytes (c .before .args .thread)) (c .before .args .buffer .now) 0 (c .if1 .left)) }
 
@@ -37,10 +28,10 @@ get-next-spec =
     tie.close
     (tie.spec
     returns
-    slice-write-buffer
+    (λ c. search needs)
     slice-write-buffer-2
     slice-write-buffer-3
     slice-write-buffer-4
-    slice-write-buffer-5
-    same-length
+    (λ c. search needs)
+    (λ c. search needs)
     returns-2)

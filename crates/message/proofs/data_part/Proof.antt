@@ -5,9 +5,6 @@ use borrow.Author.Needs.{needs}
 use Rattle.message.proofs.data_part.Statement.{statement}
 use Rattle.message.proofs.data_part.Tie as tie
 
-read-requires : tie.Need-read-requires
-read-requires c κs = search needs
-
 enum-told : tie.Need-enum-told
 enum-told c = search needs
 
@@ -16,21 +13,6 @@ sub-result c = long (c .before .before .before .before .args .message .now) (sym
 
 part-result-start : tie.Need-part-result-start
 part-result-start c = long (c .before .before .before .before .args .message .now) (sym (c .before .before .read .ensures) ∙ c .enum-told .given .1)
-
-part-result-end : tie.Need-part-result-end
-part-result-end c = search needs
-
-enum-told-2 : tie.Need-enum-told-2
-enum-told-2 c = search needs
-
-sub-result-2 : tie.Need-sub-result-2
-sub-result-2 c = search needs
-
-part-result-start-2 : tie.Need-part-result-start-2
-part-result-start-2 c = search needs
-
-part-result-end-2 : tie.Need-part-result-end-2
-part-result-end-2 c = search needs
 
 returns : tie.Need-returns
 returns c =
@@ -48,14 +30,14 @@ pub data-part-spec : {M : Type 1} → statement M
 data-part-spec =
     tie.close
     (tie.spec
-    read-requires
+    (λ c κs. search needs)
     enum-told
     sub-result
     part-result-start
-    part-result-end
-    enum-told-2
-    sub-result-2
-    part-result-start-2
-    part-result-end-2
+    (λ c. search needs)
+    (λ c. search needs)
+    (λ c. search needs)
+    (λ c. search needs)
+    (λ c. search needs)
     returns
     returns-2)

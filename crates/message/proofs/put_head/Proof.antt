@@ -7,26 +7,11 @@ use borrow.Author.Needs.{needs}
 use Rattle.message.proofs.put_head.Statement.{statement}
 use Rattle.message.proofs.put_head.Tie as tie
 
-cast-buffer : tie.Need-cast-buffer
-cast-buffer c = search needs
-
-slice-write-buffer : tie.Need-slice-write-buffer
-slice-write-buffer c = search needs
-
-cast-buffer-2 : tie.Need-cast-buffer-2
-cast-buffer-2 c = search needs
-
 slice-write-buffer-2 : tie.Need-slice-write-buffer-2
 slice-write-buffer-2 c = simp length-set (omega arith)
 
-cast-buffer-3 : tie.Need-cast-buffer-3
-cast-buffer-3 c = search needs
-
 slice-write-buffer-3 : tie.Need-slice-write-buffer-3
 slice-write-buffer-3 c = simp length-set (omega arith)
-
-cast-buffer-4 : tie.Need-cast-buffer-4
-cast-buffer-4 c = search needs
 
 slice-write-buffer-4 : tie.Need-slice-write-buffer-4
 slice-write-buffer-4 c = simp length-set (omega arith)
@@ -37,20 +22,11 @@ slice-write-buffer-5 c = simp length-set (omega arith)
 slice-write-buffer-6 : tie.Need-slice-write-buffer-6
 slice-write-buffer-6 c = simp length-set (omega arith)
 
-cast-buffer-5 : tie.Need-cast-buffer-5
-cast-buffer-5 c = search needs
-
 slice-write-buffer-7 : tie.Need-slice-write-buffer-7
 slice-write-buffer-7 c = simp length-set (omega arith)
 
-cast-buffer-6 : tie.Need-cast-buffer-6
-cast-buffer-6 c = search needs
-
 slice-write-buffer-8 : tie.Need-slice-write-buffer-8
 slice-write-buffer-8 c = simp length-set (omega arith)
-
-same-length : tie.Need-same-length
-same-length c = search needs
 
 returns : tie.Need-returns
 returns c = sets-eq (headBytes (c .args .destination) (c .args .source) (c .args .kind) (c .args .thread) (c .args .long)) (c .args .buffer .now) 0 (c .pre .0)
@@ -59,19 +35,19 @@ pub put-head-spec : {M : Type 1} → statement M
 put-head-spec =
     tie.close
     (tie.spec
-    cast-buffer
-    slice-write-buffer
-    cast-buffer-2
+    (λ c. search needs)
+    (λ c. search needs)
+    (λ c. search needs)
     slice-write-buffer-2
-    cast-buffer-3
+    (λ c. search needs)
     slice-write-buffer-3
-    cast-buffer-4
+    (λ c. search needs)
     slice-write-buffer-4
     slice-write-buffer-5
     slice-write-buffer-6
-    cast-buffer-5
+    (λ c. search needs)
     slice-write-buffer-7
-    cast-buffer-6
+    (λ c. search needs)
     slice-write-buffer-8
-    same-length
+    (λ c. search needs)
     returns)

@@ -11,24 +11,6 @@ use Rattle.message.proofs.respond.Tie as tie
 returns : tie.Need-returns
 returns c = rw (lt-ltb _ _ (c .if1 .taken))
 
-put-head-requires : tie.Need-put-head-requires
-put-head-requires c κs = search needs
-
-cast-buffer : tie.Need-cast-buffer
-cast-buffer c = search needs
-
-slice-write-buffer : tie.Need-slice-write-buffer
-slice-write-buffer c = search needs
-
-cast-buffer-2 : tie.Need-cast-buffer-2
-cast-buffer-2 c = search needs
-
-slice-write-buffer-2 : tie.Need-slice-write-buffer-2
-slice-write-buffer-2 c = search needs
-
-same-length : tie.Need-same-length
-same-length c = search needs
-
 returns-2 : tie.Need-returns-2
 unfolding responseOf messageOf
 returns-2 c = let a = c .before .before .before .before .before .before .args in
@@ -40,10 +22,10 @@ respond-spec =
     tie.close
     (tie.spec
     returns
-    put-head-requires
-    cast-buffer
-    slice-write-buffer
-    cast-buffer-2
-    slice-write-buffer-2
-    same-length
+    (λ c κs. search needs)
+    (λ c. search needs)
+    (λ c. search needs)
+    (λ c. search needs)
+    (λ c. search needs)
+    (λ c. search needs)
     returns-2)

@@ -14,18 +14,6 @@ returns : tie.Need-returns
 unfolding codeOf
 returns c = rw (lt-ltb _ _ (c .if1 .taken))
 
-shared-slice-read-pair : tie.Need-shared-slice-read-pair
-shared-slice-read-pair c = search needs
-
-sub-pair : tie.Need-sub-pair
-sub-pair c = search needs
-
-shared-slice-read-pair-2 : tie.Need-shared-slice-read-pair-2
-shared-slice-read-pair-2 c = search needs
-
-pair-requires : tie.Need-pair-requires
-pair-requires c κs = search needs
-
 returns-2 : tie.Need-returns-2
 unfolding codeOf
 returns-2 c = let n = length (c .before .before .before .before .before .args .part .now) in
@@ -37,8 +25,8 @@ response-code-spec =
     tie.close
     (tie.spec
     returns
-    shared-slice-read-pair
-    sub-pair
-    shared-slice-read-pair-2
-    pair-requires
+    (λ c. search needs)
+    (λ c. search needs)
+    (λ c. search needs)
+    (λ c κs. search needs)
     returns-2)

@@ -2,41 +2,23 @@
 use mathlib.Core.Path.{refl}
 use lib.ListN.{length}
 use Rattle.lists.proofs.Onto.{onto-then}
-use Rattle.message.specs.Message.{headBytes}
-use Rattle.message.proofs.Laws.{writes-long, writes-none, wrote-none, wrote-all}
+use Rattle.message.specs.Message.{headBytes, writingOf}
+use Rattle.message.proofs.Laws.{wrote-all}
+use borrow.Author.Tests.{lt-ltb, le-ltb}
 use borrow.Author.Needs.{needs}
 use Rattle.message.proofs.write.Statement.{statement}
 use Rattle.message.proofs.write.Tie as tie
 
 returns : tie.Need-returns
-returns c = wrote-none (c .before .before .before .args .part .now) (c .before .before .before .args .buffer .now) _ _ _ _ _ (writes-long _ _ (c .if1 .taken))
-
-add-if2 : tie.Need-add-if2
-add-if2 c = search needs
+unfolding writingOf
+returns c = let e = lt-ltb 1024 _ (c .if1 .taken) in record { answer = rw e; buffer = rw e }
 
 returns-2 : tie.Need-returns-2
-returns-2 c = wrote-none (c .before .before .before .before .args .part .now) (c .before .before .before .before .args .buffer .now) _ _ _ _ _ (writes-none _ _ (c .before .if1 .left) (c .if2 .taken))
-
-put-head-requires : tie.Need-put-head-requires
-put-head-requires c κs = search needs
-
-sub-copy : tie.Need-sub-copy
-sub-copy c = search needs
-
-part-copy-start : tie.Need-part-copy-start
-part-copy-start c = search needs
-
-part-copy-end : tie.Need-part-copy-end
-part-copy-end c = search needs
-
-copy-requires : tie.Need-copy-requires
-copy-requires c κs = search needs
-
-add-t10 : tie.Need-add-t10
-add-t10 c = search needs
-
-same-length : tie.Need-same-length
-same-length c = search needs
+unfolding writingOf
+returns-2 c =
+    let e = le-ltb 1024 _ (c .before .if1 .left) in
+    let f = lt-ltb _ _ (c .if2 .taken) in
+    record { answer = rw (e, f); buffer = rw (e, f) }
 
 returns-3 : tie.Need-returns-3
 returns-3 c = let a = c .before .before .before .before .before .before .before .before .before .before .before .before .args in
@@ -48,13 +30,13 @@ write-spec =
     tie.close
     (tie.spec
     returns
-    add-if2
+    (λ c. search needs)
     returns-2
-    put-head-requires
-    sub-copy
-    part-copy-start
-    part-copy-end
-    copy-requires
-    add-t10
-    same-length
+    (λ c κs. search needs)
+    (λ c. search needs)
+    (λ c. search needs)
+    (λ c. search needs)
+    (λ c κs. search needs)
+    (λ c. search needs)
+    (λ c. search needs)
     returns-3)

@@ -4,7 +4,7 @@ use mathlib.Core.Path.{_≡_, sym, ap, _∙_}
 use mathlib.Core.Bool.{Bool, true, false}
 use borrow.Author.Tests.{not-true, not-false}
 use Rattle.tapa.specs.Address.{categoryOf, handlerOf}
-use Rattle.tapa.specs.Types.{known}
+use Rattle.types.specs.Types.{known}
 use Rattle.table.specs.Table.{listed}
 use Rattle.places.proofs.Points.{len}
 use Rattle.rules.specs.View.{View}

@@ -4,15 +4,9 @@ use borrow.Author.Needs.{needs}
 use Rattle.tapa.proofs.handler.Statement.{statement}
 use Rattle.tapa.proofs.handler.Tie as tie
 
-mul-result : tie.Need-mul-result
-mul-result c = search needs
-
-add-result : tie.Need-add-result
-add-result c = search needs
-
 returns : tie.Need-returns
 unfolding handlerOf
 returns c = search needs
 
 pub handler-spec : {M : Type 1} → statement M
-handler-spec = tie.close (tie.spec mul-result add-result returns)
+handler-spec = tie.close (tie.spec (λ c. search needs) (λ c. search needs) returns)

@@ -9,26 +9,11 @@ use Rattle.joiner.proofs.Joiner.join.Tie as tie
 returns : tie.Need-returns
 returns c = joins-small (c .before .before .before .args .self) (c .before .before .before .args .piece .now) (c .before .before .before .args .buffer .now) (c .if1 .taken)
 
-check-piece-requires : tie.Need-check-piece-requires
-check-piece-requires c κs = search needs
-
-enum-known-refusal : tie.Need-enum-known-refusal
-enum-known-refusal c = search needs
-
-counting-requires : tie.Need-counting-requires
-counting-requires c κs = search needs
-
 enum-told : tie.Need-enum-told
 enum-told c = search needs
 
 add-piece-requires : tie.Need-add-piece-requires
 add-piece-requires c κs = let a = c .before .before .before .before .before .before .before .args in let t = taken-more (a .self .joined) (a .piece .now) (sym (c .before .before .before .check-piece .ensures) ∙ c .before .enum-told .given .1) in (t .two, omega (arith, t .fits, c .before .before .before .before .if1 .left))
-
-counting-requires-2 : tie.Need-counting-requires-2
-counting-requires-2 c κs = search needs
-
-enum-told-2 : tie.Need-enum-told-2
-enum-told-2 c = search needs
 
 add-piece-requires-2 : tie.Need-add-piece-requires-2
 add-piece-requires-2 c κs = let a = c .before .before .before .before .before .before .before .args in let t = taken-last (a .self .joined) (a .piece .now) (sym (c .before .before .before .check-piece .ensures) ∙ c .before .enum-told2 .given .1) in (t .two, omega (arith, t .fits, c .before .before .before .before .if1 .left))
@@ -36,20 +21,11 @@ add-piece-requires-2 c κs = let a = c .before .before .before .before .before .
 finish-requires : tie.Need-finish-requires
 finish-requires c κs = let a = c .before .before .before .before .before .before .before .before .before .before .before .args in let t = taken-last (a .self .joined) (a .piece .now) (sym (c .before .before .before .before .before .before .before .check-piece .ensures) ∙ c .before .before .before .before .before .enum-told2 .given .1) in (omega (arith, t .fits, c .before .before .before .add-piece2 .ensures .0), search needs)
 
-counting-requires-3 : tie.Need-counting-requires-3
-counting-requires-3 c κs = search needs
-
 returns-2 : tie.Need-returns-2
 returns-2 c = let a = c .before .before .before .before .before .before .before .before .args in joins-none (a .self) (a .piece .now) (a .buffer .now) (c .before .before .before .before .before .if1 .left) _ _ (sym (c .before .before .before .before .check-piece .ensures) ∙ c .before .before .refusal .given .1) (c .counting .ensures)
 
-same-length : tie.Need-same-length
-same-length c = search needs
-
 returns-3 : tie.Need-returns-3
 returns-3 c = let a = c .before .before .before .before .before .before .before .before .before .before .before .args in joins-more (a .self) (a .piece .now) (a .buffer .now) (c .before .before .before .before .before .before .before .before .if1 .left) _ _ _ (sym (c .before .before .before .before .before .before .before .check-piece .ensures) ∙ c .before .before .before .before .before .enum-told .given .1) (c .before .before .before .add-piece .ensures .0) (c .counting2 .ensures) (c .before .before .before .add-piece .ensures .1)
-
-same-length-2 : tie.Need-same-length-2
-same-length-2 c = search needs
 
 returns-4 : tie.Need-returns-4
 returns-4 c = let a = c .before .before .before .before .before .before .before .before .before .before .before .before .before .before .before .args in joins-last (a .self) (a .piece .now) (a .buffer .now) (c .before .before .before .before .before .before .before .before .before .before .before .before .if1 .left) _ _ _ _ _ (sym (c .before .before .before .before .before .before .before .before .before .before .before .check-piece .ensures) ∙ c .before .before .before .before .before .before .before .before .before .enum-told2 .given .1) (c .before .before .before .before .before .before .before .add-piece2 .ensures .0) (c .counting3 .ensures) (c .before .before .before .before .before .before .before .add-piece2 .ensures .1) (c .before .before .before .finish .ensures .0) (c .before .before .before .finish .ensures .1)
@@ -59,18 +35,18 @@ join-spec =
     tie.close
     (tie.spec
     returns
-    check-piece-requires
-    enum-known-refusal
-    counting-requires
+    (λ c κs. search needs)
+    (λ c. search needs)
+    (λ c κs. search needs)
     enum-told
     add-piece-requires
-    counting-requires-2
-    enum-told-2
+    (λ c κs. search needs)
+    (λ c. search needs)
     add-piece-requires-2
     finish-requires
-    counting-requires-3
+    (λ c κs. search needs)
     returns-2
-    same-length
+    (λ c. search needs)
     returns-3
-    same-length-2
+    (λ c. search needs)
     returns-4)

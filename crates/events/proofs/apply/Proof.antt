@@ -1,0 +1,51 @@
+-- `events::apply` meets its contract: an arm for each outcome. Assumes nothing.
+use mathlib.Core.Path.{refl, subst}
+use Rattle.queue.specs.Places.{eventsOf}
+use Rattle.events.specs.Events.{apply, Allowed}
+use borrow.Author.Needs.{needs}
+use Rattle.events.proofs.apply.Statement.{statement}
+use Rattle.events.proofs.apply.Tie as tie
+
+with-requires : tie.Need-with-requires
+with-requires c κs = (search needs, subst (Allowed (eventsOf (c .before .before .before .args .queue))) (c .before .outcome .given .1) (c .before .before .before .pre .1))
+
+enum-told : tie.Need-enum-told
+enum-told c = search needs
+
+returns : tie.Need-returns
+unfolding apply
+returns c = rw (c .before .before .outcome .given .1) (c .with .ensures)
+
+returns-2 : tie.Need-returns-2
+unfolding apply
+returns-2 c = rw (c .enum-told .given .1) (record { events = refl; law = c .before .before .pre .0 })
+
+returns-3 : tie.Need-returns-3
+unfolding apply
+returns-3 c = rw (c .before .before .outcome2 .given .1) (c .taken .ensures)
+
+returns-4 : tie.Need-returns-4
+unfolding apply
+returns-4 c = rw (c .before .enum-told2 .given .1) (c .fresh .ensures)
+
+returns-5 : tie.Need-returns-5
+unfolding apply
+returns-5 c = rw (c .enum-told3 .given .1) (record { events = refl; law = c .before .before .pre .0 })
+
+pub apply-spec : {M : Type 1} → statement M
+apply-spec =
+    tie.close
+    (tie.spec
+    (λ c. search needs)
+    with-requires
+    enum-told
+    (λ c. search needs)
+    (λ c κs. search needs)
+    (λ c. search needs)
+    (λ c κs. search needs)
+    (λ c. search needs)
+    returns
+    returns-2
+    returns-3
+    returns-4
+    returns-5)

@@ -1,0 +1,55 @@
+-- `events::judge` meets its contract: an arm for each command. Assumes nothing.
+use mathlib.Core.Path.{sym, _∙_}
+use Rattle.events.specs.Events.{judge}
+use borrow.Author.Needs.{needs}
+use Rattle.events.proofs.judge.Statement.{statement}
+use Rattle.events.proofs.judge.Tie as tie
+
+returns : tie.Need-returns
+unfolding judge
+returns c = rw (c .before .before .before .command .given .1, sym (c .before .has-room .ensures) ∙ c .if1 .taken)
+
+returns-2 : tie.Need-returns-2
+unfolding judge
+returns-2 c = rw (c .before .before .before .command .given .1, sym (c .before .has-room .ensures) ∙ c .if1 .left)
+
+returns-3 : tie.Need-returns-3
+unfolding judge
+returns-3 c = rw (c .enum-told .given .1)
+
+returns-4 : tie.Need-returns-4
+unfolding judge
+returns-4 c = rw (c .before .before .enum-told2 .given .1, ← c .before .oldest .ensures) (c .taken-or .ensures)
+
+returns-5 : tie.Need-returns-5
+returns-5 c = rw (c .before .before .command2 .given .1) (c .judge-find .ensures)
+
+returns-6 : tie.Need-returns-6
+unfolding judge
+returns-6 c = rw (c .enum-told3 .given .1)
+
+returns-7 : tie.Need-returns-7
+unfolding judge
+returns-7 c = rw (c .enum-told4 .given .1)
+
+pub judge-spec : {M : Type 1} → statement M
+judge-spec =
+    tie.close
+    (tie.spec
+    (λ c. search needs)
+    (λ c κs. search needs)
+    (λ c. search needs)
+    (λ c. search needs)
+    (λ c κs. search needs)
+    (λ c κs. search needs)
+    (λ c. search needs)
+    (λ c κs. search needs)
+    (λ c. search needs)
+    (λ c. search needs)
+    returns
+    returns-2
+    returns-3
+    returns-4
+    returns-5
+    returns-6
+    returns-7)

@@ -1,0 +1,10 @@
+-- `queue::fresh` meets its contract. Assumes nothing.
+use Rattle.queue.proofs.Laws.{holds-none}
+use Rattle.queue.proofs.fresh.Statement.{statement}
+use Rattle.queue.proofs.fresh.Tie as tie
+
+returns : tie.Need-returns
+returns c = holds-none
+
+pub fresh-spec : {M : Type 1} → statement M
+fresh-spec = tie.close (tie.spec returns)
