@@ -16,8 +16,8 @@ use Rattle.table.specs.declared.Row.{Row}
 use Rattle.table.specs.Table.{noRows, withRow, shaped, judgeTable, judgeRows}
 use Rattle.table.proofs.Read.{with-held, none-held}
 use Rattle.router.specs.Router as router
-use Rattle.router.specs.Start.{startWith}
-use Rattle.router.proofs.Starts.{start-lawful}
+use Rattle.start.specs.Start.{startWith}
+use Rattle.start.proofs.Starts.{start-law}
 use Rattle.bench.specs.declared.Bench.{Bench}
 use Rattle.bench.specs.declared.Turn.{Turn}
 use Rattle.bench.specs.Bench.{Sound, Stops, Turns, Fills}
@@ -80,5 +80,4 @@ abbrev pub firstRow : Row
 firstRow = record { address = 256; opened = true }
 
 pub first-lawful : router.Lawful (startWith (withRow noRows firstRow) .router)
-unfolding withRow judgeRows judgeTable shaped categoryOf subAddressOf multi
-first-lawful = start-lawful (withRow noRows firstRow) refl (with-held noRows firstRow none-held)
+first-lawful = start-law (withRow noRows firstRow) (with-held noRows firstRow none-held)

@@ -225,7 +225,7 @@ fn say_sent<'a>(
     reply: &'a [u8],
 ) -> usize {
     let a = say_outcome(line, at, outcome);
-    let b = say_bytes(line, a, router::part_to_send(outcome, message, reply));
+    let b = say_bytes(line, a, sending::part_to_send(outcome, message, reply));
     say_bytes(line, b, reply)
 }
 
@@ -407,7 +407,7 @@ impl Parts {
         requires { ⌜ Lawful self ⌝ }
         ensures { λ r. ⌜ Lawful (r .next) ⌝ }
     {
-        let begun = router::start_with(self.rows);
+        let begun = start::start_with(self.rows);
         let answer = begun.answer;
         let next = self.with_rows(table::no_rows());
         match answer {
@@ -662,7 +662,7 @@ fn first_router() -> Router
         address: 0x0100,
         opened: true,
     };
-    let begun = router::start_with(table::with_row(table::no_rows(), row));
+    let begun = start::start_with(table::with_row(table::no_rows(), row));
     begun.router
 }
 

@@ -23,8 +23,8 @@ use Rattle.rules.specs.Apply.{applied, reopened}
 use Rattle.rules.proofs.Sums.{row, rows, one-passed}
 use Rattle.router.specs.declared.Router.{Router}
 use Rattle.router.specs.Router.{viewOf, Lawful}
-use Rattle.router.specs.Start.{startOf}
-use Rattle.router.proofs.Starts.{lent-view, lent-law}
+use Rattle.start.specs.Start.{startOf}
+use Rattle.start.proofs.Starts.{lent-view, lent-law}
 use Rattle.demands.specs.Cheats.{Build, Meets, RefusesAll, OneOutcome, DoesNothing, ten, Echoes}
 use Rattle.demands.proofs.Used.{start-fresh}
 

@@ -18,8 +18,8 @@ use Rattle.rules.specs.Judge.{Call, message, giveUp, replaced, judge, judgeRepl
 use Rattle.rules.specs.Apply.{applied, written, sent}
 use Rattle.router.specs.declared.Router.{Router}
 use Rattle.router.specs.Router.{viewOf, Lawful}
-use Rattle.router.specs.Start.{startWith, startOf}
-use Rattle.router.proofs.Starts.{start-law, lent-law}
+use Rattle.start.specs.Start.{startWith, startOf}
+use Rattle.start.proofs.Starts.{start-law, lent-law}
 use Rattle.history.specs.History.{Entry, goesOut}
 use Rattle.history.specs.Marks.{Honest}
 use Rattle.history.specs.Promise.{Ran, begun, going, EachBears, Promise, Bounded}

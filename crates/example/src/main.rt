@@ -3,15 +3,14 @@
 // docs/LIBRARY.md walks through it. Each line printed is what is to be sent on.
 use libc::STDOUT_FILENO;
 use router::Router;
-use rules::Outcome;
+use start::Started;
 use table::Row;
-use table::Rows;
-ghost use Rattle.table.specs.Table.{Held};
 ghost use Rattle.router.specs.Router.{Lawful};
 
-// The till driver '0100' and the security module '0001', both open.
-fn rows() -> Rows
-    ensures { λ r. ⌜ Held r ⌝ }
+// A fresh router over the till driver '0100' and the security module '0001', both open: two lent
+// rows, read in order.
+fn begin() -> Started
+    ensures { λ r. ⌜ Lawful (r .router) ⌝ }
 {
     let till = Row {
         address: 0x0100,
@@ -21,7 +20,9 @@ fn rows() -> Rows
         address: 0x0001,
         opened: true,
     };
-    table::with_row(table::with_row(table::no_rows(), till), module)
+    let mut rows = [till; 17];
+    rows[1] = module;
+    start::start_from(table::set_up_own(rows, 2))
 }
 
 // Sends a part on: here, as a line of hexadecimal digits.
@@ -42,12 +43,12 @@ fn carry(router: Router, message: &[u8]) -> Router
     let mut reply = [0u8; 10];
     let routed = router.route(message, &mut reply);
     let outcome = routed.outcome;
-    send(router::part_to_send(outcome, message, &reply));
+    send(sending::part_to_send(outcome, message, &reply));
     routed.next
 }
 
 fn main() {
-    let started = router::start_with(rows());
+    let started = begin();
     let kiosk = started.router;
     // Thread 3: an ICC command with one data byte, and its response with the code '0000'.
     let asked = carry(kiosk, b"\x00\x01\x01\x00\x42\x03\x00\x01\xAA");

@@ -3,17 +3,11 @@ use Prim.Native.Nat.{ℕ}
 use mathlib.Core.Path.{_≡_, sym, _∙_}
 use mathlib.Core.List.{List}
 use lib.ListN.{length}
-use denote.Ref.{RefT, now}
-use Rattle.table.specs.declared.Row.{Row}
-use Rattle.table.specs.declared.Rows.{Rows}
 use Rattle.rules.specs.declared.Outcome.{Outcome}
 use Rattle.rules.specs.Judge.{judgeMessage, judgeGiveUp, judgeReplaced}
 use Rattle.router.specs.declared.Router.{Router}
 use Rattle.router.specs.declared.Routed.{Routed}
-use Rattle.router.specs.declared.Started.{Started}
 use Rattle.router.specs.Router.{viewOf, Routing, Replacing}
-use Rattle.router.specs.Sending.{Sending}
-use Rattle.router.specs.Start.{startWith, startOf}
 use Rattle.router.proofs.States.{determined}
 
 same : (p q : Outcome) (r s : Router) → p ≡ q → r ≡ s → _≡_ {A = Routed} (record { outcome = p; next = r }) (record { outcome = q; next = s })
@@ -51,13 +45,3 @@ module _ (r : Router) (x y : Routed) where
       → Replacing (judgeReplaced (viewOf r) address) r y
       → x ≡ y
   one-replaced address = one-replacing _ r x y
-
-pub one-start-with : (t : Rows) (x y : Started) → x ≡ startWith t → y ≡ startWith t → x ≡ y
-one-start-with t x y a b = a ∙ sym b
-
-pub one-start : (rows : List Row) (x y : Started) → x ≡ startOf rows → y ≡ startOf rows → x ≡ y
-one-start rows x y a b = a ∙ sym b
-
--- a part is known by its bytes and by where it stands
-pub one-part-to-send : (o : Outcome) (message reply a b : RefT (List ℕ)) → Sending o message reply a → Sending o message reply b → (now a ≡ now b) × (a .ptr ≡ b .ptr)
-one-part-to-send o message reply a b x y = (x .bytes ∙ sym (y .bytes), x .place ∙ sym (y .place))

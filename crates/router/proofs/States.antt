@@ -1,32 +1,24 @@
 -- From a step in place to the state by value; and that a state is known by its view.
 use Prim.Native.Nat.{ℕ}
-use mathlib.Core.Path.{_≡_, refl, ap}
+use mathlib.Core.Path.{_≡_, ap}
 use mathlib.Core.Bool.{Bool}
 use mathlib.Core.List.{List}
-use mathlib.Core.Option.{Option, none, some}
-use lib.Dec.{ltb}
-use lib.ListN.{replicate}
-use Rattle.lists.specs.Lists.{first}
-use Rattle.lists.proofs.Tests.{split}
 use Rattle.table.specs.declared.Row.{Row}
-use Rattle.table.specs.declared.Rows.{Rows}
-use Rattle.table.specs.declared.SetUp.{SetUp}
-use Rattle.table.specs.Table.{setUpWith}
 use Rattle.table.proofs.Once as table
 use Rattle.places.specs.declared.Place.{Place}
-use Rattle.places.specs.Places.{placesOf, openOn}
+use Rattle.places.specs.Places.{placesOf}
 use Rattle.places.specs.Places as places
 use Rattle.places.proofs.Once as held
 use Rattle.rules.specs.View.{View}
 use Rattle.rules.specs.declared.Outcome.{Outcome}
-use Rattle.rules.specs.Judge.{Call, giveUp, judge, yields, judgeGiveUp}
-use Rattle.rules.specs.Apply.{rowsAfter, applied}
+use Rattle.rules.specs.Judge.{Call, giveUp, judge, judgeGiveUp}
+use Rattle.rules.specs.Apply.{applied}
 use Rattle.rules.proofs.Kept as kept
+use Rattle.rules.proofs.Untouched.{give-up-rows}
+use Rattle.routing.specs.declared.Step.{Step}
+use Rattle.routing.specs.Steps.{Moving, Stepping, Giving}
 use Rattle.router.specs.declared.Router.{Router}
-use Rattle.router.specs.declared.Step.{Step}
 use Rattle.router.specs.Router.{viewOf, Lawful, Routing, Replacing}
-use Rattle.router.specs.Start.{startWith}
-use Rattle.router.specs.Steps.{Moving, Stepping, Giving}
 
 views : (v w : View) → v .rows ≡ w .rows → v .places ≡ w .places → v ≡ w
 views v w p q = go (v .rows) (w .rows) (v .places) (w .places) p q
@@ -66,17 +58,7 @@ module _ (r : Router) (g : Lawful r) (room : ℕ) (call : Call) where
       let y = replaces m l s (x .moving) in
       record { outcome = y .outcome; view = y .view; law = y .law; reply = x .reply }
 
--- a give up moves no row
-give-up-rows : (v : View) (room t : ℕ) → v .rows ≡ rowsAfter (judgeGiveUp v room t) v
-unfolding judgeGiveUp yields
-give-up-rows v room t =
-    split (ltb room 10) (λ p. rw p)
-    (λ p. rw p (split (ltb 7 t) (λ q. rw q) (λ q. rw q (go (first (openOn t) (v .places))))))
-  where
-    go : (o : Option Place) → v .rows ≡ rowsAfter (yields o) v
-    go none = refl
-    go (some w) = refl
-
+-- a give up looks at no row and moves none
 pub gives-up : (r : Router) → Lawful r → (room t : ℕ) (l before after : List ℕ) (s : Step)
     → Giving (placesOf (r .list) (r .len)) room t l before after s
     → Routing (judgeGiveUp (viewOf r) room t) r before after
@@ -85,12 +67,6 @@ gives-up r g room t l before after s f =
     let x = f (viewOf r .rows) in
     routes r g room (giveUp t) (r .opens) l before after s
     (record { moving = record { placing = x .placing; rows = give-up-rows (viewOf r) room t; columns = g .columns }; reply = x .reply })
-
--- ---- the start
-
-pub starts : (t : Rows) (u : SetUp) → u ≡ setUpWith t
-    → record { answer = u .answer; router = record { list = replicate 48 0; len = 0; addresses = u .rows .addresses; opens = u .rows .opens; count = u .rows .count } } ≡ startWith t
-starts t u e = rw e
 
 -- ---- a lawful state is known by its view
 

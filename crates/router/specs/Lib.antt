@@ -1,4 +1,1 @@
 pub mod Router
-pub mod Steps
-pub mod Start
-pub mod Sending

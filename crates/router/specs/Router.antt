@@ -2,18 +2,18 @@
 use Prim.Native.Nat.{ℕ}
 use mathlib.Core.Path.{_≡_}
 use mathlib.Core.List.{List}
-use Rattle.table.specs.Table.{rowsOf, Columns, Proper}
-use Rattle.places.specs.Places.{placesOf}
+use Rattle.table.specs.Table.{Columns, Proper}
 use Rattle.places.specs.Places as places
 use Rattle.rules.specs.View.{View}
 use Rattle.rules.specs.declared.Outcome.{Outcome}
 use Rattle.rules.specs.Apply.{applied, written}
 use Rattle.rules.specs.Conduct.{Conduct}
+use Rattle.ruling.specs.Ruling.{heldView}
 use Rattle.router.specs.declared.Router.{Router}
 use Rattle.router.specs.declared.Routed.{Routed}
 
 abbrev pub viewOf : Router → View
-viewOf r = record { rows = rowsOf (r .addresses) (r .opens) (r .count); places = placesOf (r .list) (r .len) }
+viewOf r = heldView (r .addresses) (r .opens) (r .count) (r .list) (r .len)
 
 -- the law of every state that a start or a call hands back: the arrays hold what the view says and nothing else, the table was accepted
 -- (or has no rows, after a refused start), and the places keep the conduct

@@ -1,33 +1,31 @@
--- What `judge` decides, one law for each way that a call can go; and what an outcome does to places that were found by their number.
+-- What `judge` decides, one law for each way that a call can go. The code is held to the rules by these: a new check is one entry of the rules and
+-- one law here. A law that speaks of what a function answered takes it by name, with the equation that says what it is.
 use Prim.Native.Nat.{ℕ, _≤_, _<_}
-use mathlib.Core.Path.{_≡_, refl, sym, _∙_}
-use mathlib.Core.Bool.{true, false, not, _&&_}
+use mathlib.Core.Path.{_≡_, ap, _∙_}
+use mathlib.Core.Bool.{true, false}
 use mathlib.Core.List.{List}
-use mathlib.Core.Option.{none, some}
-use lib.Dec.{eqb, leb}
+use mathlib.Core.Option.{Option, none, some}
 use lib.ListN.{length}
-use borrow.Author.Tests.{lt-ltb, le-ltb, eq-eqb, ne-eqb}
-use Rattle.lists.specs.declared.Found.the-variants.{At}
-use Rattle.lists.specs.Lists.{someOf, first, without, changed, find, withoutAt, changedAt}
-use Rattle.lists.proofs.First.{first-yes, first-strong}
-use Rattle.lists.proofs.Numbers.{end-found, change-found}
+use borrow.Author.Tests.{lt-ltb, le-ltb, lt-leb, le-leb, eq-eqb, ne-eqb}
+use Rattle.lists.specs.Lists.{checks, someOf, first}
 use Rattle.tapa.specs.Address.{categoryOf, handlerOf}
-use Rattle.tapa.specs.Codes.{invalidDestination, handlerError, handlerBusy, insufficientResources, mustBeOpened, unsupportedOperation, response, openHandler}
+use Rattle.tapa.specs.Codes.{invalidDestination, handlerError, handlerBusy, insufficientResources, mustBeOpened, unsupportedOperation, response, eventHandler}
 use Rattle.types.specs.Types.{known}
 use Rattle.tapa.specs.declared.Refusal.{Refusal}
-use Rattle.tapa.specs.declared.Refusal.the-variants.{NotInTable, ThreadAbove7, NoResponseCode, StrayResponse, WrongAsker, BufferTooSmall, NothingToGiveUp, StandsInAWait}
+use Rattle.tapa.specs.declared.Refusal.the-variants.{NotInTable, ThreadAbove7, NoResponseCode, StrayResponse, WrongAsker, BufferTooSmall, EventCannotBeTaken, NothingToGiveUp, StandsInAWait}
 use Rattle.message.specs.declared.Head.{Head}
+use Rattle.message.specs.declared.Reading.{Reading}
 use Rattle.message.specs.declared.Reading.the-variants.{Message, Refused as Unread}
 use Rattle.message.specs.declared.Coded.{Coded}
 use Rattle.message.specs.declared.Coded.the-variants.{Code, Missing}
 use Rattle.message.specs.Message.{readOf, partOf, codeOf}
+use Rattle.table.specs.declared.Row.{Row}
 use Rattle.table.specs.Table.{listed, openedAt}
 use Rattle.places.specs.declared.Place.{Place}
-use Rattle.places.specs.Places.{openOn, asksExactly, owesExactly, standsIn}
+use Rattle.places.specs.Places.{openOn, owesExactly, standsIn}
 use Rattle.rules.specs.View.{View}
-use Rattle.rules.specs.declared.Outcome.the-variants.{Passed, Answered, Swallowed, Given, Reset, Refused}
-use Rattle.rules.specs.Judge.{late, reply, judgeResponse, isAddEvent, judgeEvent, mayAsk, busy, turned, judgeCommand, judgeKind, judgeRead, judgeMessage, yields, judgeGiveUp, judgeReplaced}
-use Rattle.rules.proofs.Waits.{exact-on}
+use Rattle.rules.specs.declared.Outcome.the-variants.{Passed, Answered, Swallowed, Event, Given, Reset, Refused}
+use Rattle.rules.specs.Judge.{answerable, replyTests, late, reply, judgeResponse, isAddEvent, judgeEvent, closedTo, mayAsk, busy, turned, judgeCommand, commonTests, judgeKind, judgeRead, judgeMessage, yields, judgeGiveUp, judgeReplaced}
 
 -- ---- a message: the common checks
 module _ (v : View) (room : ℕ) (s : List ℕ) where
@@ -35,23 +33,29 @@ module _ (v : View) (room : ℕ) (s : List ℕ) where
   unfolding judgeMessage
   message-small l = rw (lt-ltb room 10 l)
 
-  module _ (enough : 10 ≤ room) where
-    pub message-unread : (r : Refusal) → readOf s ≡ Unread r → judgeMessage v room s ≡ Refused r
-    unfolding judgeMessage judgeRead
-    message-unread r e = rw (le-ltb room 10 enough, e)
+  module _ (enough : 10 ≤ room) (r : Reading) (e : r ≡ readOf s) where
+    reads-on : judgeMessage v room s ≡ judgeRead v r (codeOf (partOf s))
+    unfolding judgeMessage
+    reads-on = rw (le-ltb room 10 enough, e)
 
-    module _ (h : Head) (e : readOf s ≡ Message h) where
+    pub message-unread : (z : Refusal) → r ≡ Unread z → judgeMessage v room s ≡ Refused z
+    unfolding judgeRead
+    message-unread z q = reads-on ∙ ap (λ (x : Reading). judgeRead v x (codeOf (partOf s))) q
+
+    module _ (h : Head) (q : r ≡ Message h) where
+      message-read : judgeMessage v room s ≡ checks (commonTests (v .rows) h) (judgeKind v h (codeOf (partOf s)))
+      unfolding judgeRead
+      message-read = reads-on ∙ ap (λ (x : Reading). judgeRead v x (codeOf (partOf s))) q
+
       pub message-unlisted : listed (handlerOf (h .source)) (v .rows) ≡ false → judgeMessage v room s ≡ Refused NotInTable
-      unfolding judgeMessage judgeRead
-      message-unlisted n = rw (le-ltb room 10 enough, e, n)
+      message-unlisted n = message-read ∙ rw n
 
-      pub message-thread : listed (handlerOf (h .source)) (v .rows) ≡ true → 7 < h .thread → judgeMessage v room s ≡ Refused ThreadAbove7
-      unfolding judgeMessage judgeRead
-      message-thread y l = rw (le-ltb room 10 enough, e, y, lt-ltb 7 (h .thread) l)
+      module _ (y : listed (handlerOf (h .source)) (v .rows) ≡ true) where
+        pub message-thread : 7 < h .thread → judgeMessage v room s ≡ Refused ThreadAbove7
+        message-thread l = message-read ∙ rw (y, lt-ltb 7 (h .thread) l)
 
-      pub message-kind : listed (handlerOf (h .source)) (v .rows) ≡ true → h .thread ≤ 7 → judgeMessage v room s ≡ judgeKind v h (codeOf (partOf s))
-      unfolding judgeMessage judgeRead
-      message-kind y l = rw (le-ltb room 10 enough, e, y, le-ltb 7 (h .thread) l)
+        pub message-kind : h .thread ≤ 7 → judgeMessage v room s ≡ judgeKind v h (codeOf (partOf s))
+        message-kind l = message-read ∙ rw (y, le-ltb 7 (h .thread) l)
 
 -- ---- a message, by its type
 module _ (v : View) (h : Head) (code : Coded) where
@@ -68,6 +72,13 @@ module _ (v : View) (h : Head) (code : Coded) where
     unfolding judgeKind
     kind-command e = rw (ne-eqb (h .kind) response n, e)
 
+-- ---- an event
+pub event-taken : (rows : List Row) → openedAt eventHandler rows ≡ true → judgeEvent rows ≡ Event
+event-taken rows e = rw e
+
+pub event-refused : (rows : List Row) → openedAt eventHandler rows ≡ false → judgeEvent rows ≡ Refused EventCannotBeTaken
+event-refused rows e = rw e
+
 -- ---- a command: 'The first that applies is turned back with its code'
 module _ (v : View) (h : Head) where
   pub turned-a : listed (handlerOf (h .destination)) (v .rows) ≡ false → judgeCommand v h ≡ turned h invalidDestination
@@ -80,11 +91,11 @@ module _ (v : View) (h : Head) where
     turned-b b = rw (a, b)
 
     module _ (b : known (categoryOf (h .destination)) (h .kind) ≡ true) where
-      pub turned-c : not (openedAt (handlerOf (h .destination)) (v .rows)) && not (eqb (h .kind) openHandler) ≡ true → judgeCommand v h ≡ turned h mustBeOpened
+      pub turned-c : closedTo (v .rows) (handlerOf (h .destination)) (h .kind) ≡ true → judgeCommand v h ≡ turned h mustBeOpened
       unfolding judgeCommand
       turned-c c = rw (a, b, c)
 
-      module _ (c : not (openedAt (handlerOf (h .destination)) (v .rows)) && not (eqb (h .kind) openHandler) ≡ false) where
+      module _ (c : closedTo (v .rows) (handlerOf (h .destination)) (h .kind) ≡ false) where
         pub turned-d : mayAsk (v .places) (h .thread) (h .source) ≡ false → judgeCommand v h ≡ turned h handlerError
         unfolding judgeCommand
         turned-d d = rw (a, b, c, d)
@@ -95,20 +106,16 @@ module _ (v : View) (h : Head) where
           turned-e e = rw (a, b, c, d, e)
 
           module _ (e : busy (v .places) (h .source) (handlerOf (h .destination)) (h .thread) ≡ false) where
-            pub turned-f : leb 48 (length (v .places)) ≡ true → judgeCommand v h ≡ turned h insufficientResources
+            pub turned-f : 48 ≤ length (v .places) → judgeCommand v h ≡ turned h insufficientResources
             unfolding judgeCommand
-            turned-f f = rw (a, b, c, d, e, f)
+            turned-f f = rw (a, b, c, d, e, le-leb 48 (length (v .places)) f)
 
-            pub passes : leb 48 (length (v .places)) ≡ false → judgeCommand v h ≡ Passed (h .source) (h .destination) (h .kind) (h .thread)
+            pub passes : length (v .places) < 48 → judgeCommand v h ≡ Passed (h .source) (h .destination) (h .kind) (h .thread)
             unfolding judgeCommand
-            passes f = rw (a, b, c, d, e, f)
+            passes f = rw (a, b, c, d, e, lt-leb 48 (length (v .places)) f)
 
 -- ---- a response
 module _ (places : List Place) (h : Head) where
-  pub response-missing : judgeResponse places h Missing ≡ Refused NoResponseCode
-  unfolding judgeResponse
-  response-missing = refl
-
   pub late-swallowed : someOf (owesExactly (h .source) (h .thread)) places ≡ true → late places h ≡ Swallowed (h .source) (h .thread)
   unfolding late
   late-swallowed e = rw e
@@ -117,24 +124,27 @@ module _ (places : List Place) (h : Head) where
   unfolding late
   late-stray e = rw e
 
-  -- no wait on the thread, or the innermost asks another address
-  pub response-alone : (code : ℕ) → first (openOn (h .thread)) places ≡ none → judgeResponse places h (Code code) ≡ late places h
-  unfolding judgeResponse reply
-  response-alone code e = rw e
+  module _ (coded : Coded) where
+    pub response-missing : coded ≡ Missing → judgeResponse places h coded ≡ Refused NoResponseCode
+    unfolding judgeResponse
+    response-missing e = ap (judgeResponse places h) e
 
-  module _ (w : Place) (e : first (openOn (h .thread)) places ≡ some w) (code : ℕ) where
-    pub response-other : (w .asked ≡ h .source → ⊥) → judgeResponse places h (Code code) ≡ late places h
-    unfolding judgeResponse reply
-    response-other n = rw (e, ne-eqb (w .asked) (h .source) n)
+    module _ (code : ℕ) (e : coded ≡ Code code) where
+      -- no wait on the thread, or the innermost asks another address
+      pub response-late : answerable places (h .source) (h .thread) ≡ none → judgeResponse places h coded ≡ late places h
+      unfolding judgeResponse reply
+      response-late f = ap (judgeResponse places h) e ∙ ap (λ (o : Option Place). reply places o h code) f
 
-    pub response-wrong : w .asked ≡ h .source → (w .asker ≡ h .destination → ⊥) → judgeResponse places h (Code code) ≡ Refused WrongAsker
-    unfolding judgeResponse reply
-    response-wrong y n = rw (e, eq-eqb (w .asked) (h .source) y, ne-eqb (w .asker) (h .destination) n)
+      module _ (w : Place) (f : answerable places (h .source) (h .thread) ≡ some w) where
+        replied : judgeResponse places h coded ≡ checks (replyTests w h) (Answered (h .source) (h .destination) (h .thread) code)
+        unfolding judgeResponse reply
+        replied = ap (judgeResponse places h) e ∙ ap (λ (o : Option Place). reply places o h code) f
 
-    pub response-answered : w .asked ≡ h .source → w .asker ≡ h .destination
-        → judgeResponse places h (Code code) ≡ Answered (h .source) (h .destination) (h .thread) code
-    unfolding judgeResponse reply
-    response-answered y d = rw (e, eq-eqb (w .asked) (h .source) y, eq-eqb (w .asker) (h .destination) d)
+        pub response-wrong : (w .asker ≡ h .destination → ⊥) → judgeResponse places h coded ≡ Refused WrongAsker
+        response-wrong n = replied ∙ rw (ne-eqb (w .asker) (h .destination) n)
+
+        pub response-answered : w .asker ≡ h .destination → judgeResponse places h coded ≡ Answered (h .source) (h .destination) (h .thread) code
+        response-answered y = replied ∙ rw (eq-eqb (w .asker) (h .destination) y)
 
 -- ---- Give up
 module _ (v : View) (room t : ℕ) where
@@ -157,32 +167,16 @@ module _ (v : View) (room t : ℕ) where
       give-up-given w e = rw (le-ltb room 10 enough, le-ltb 7 t l, e)
 
 -- ---- Replaced
-module _ (v : View) (a : ℕ) where
-  pub replaced-unlisted : listed (handlerOf a) (v .rows) ≡ false → judgeReplaced v a ≡ Refused NotInTable
+module _ (v : View) (a h : ℕ) (e : h ≡ handlerOf a) where
+  pub replaced-unlisted : listed h (v .rows) ≡ false → judgeReplaced v a ≡ Refused NotInTable
   unfolding judgeReplaced
-  replaced-unlisted n = rw n
+  replaced-unlisted n = rw (← e, n)
 
-  pub replaced-stands : listed (handlerOf a) (v .rows) ≡ true → someOf (standsIn (handlerOf a)) (v .places) ≡ true → judgeReplaced v a ≡ Refused StandsInAWait
-  unfolding judgeReplaced
-  replaced-stands y s = rw (y, s)
+  module _ (y : listed h (v .rows) ≡ true) where
+    pub replaced-stands : someOf (standsIn h) (v .places) ≡ true → judgeReplaced v a ≡ Refused StandsInAWait
+    unfolding judgeReplaced
+    replaced-stands s = rw (← e, y, s)
 
-  pub replaced-reset : listed (handlerOf a) (v .rows) ≡ true → someOf (standsIn (handlerOf a)) (v .places) ≡ false → judgeReplaced v a ≡ Reset (handlerOf a)
-  unfolding judgeReplaced
-  replaced-reset y s = rw (y, s)
-
--- ---- what was found by its number
-
--- the innermost wait, of which this is the asked address: it is the wait that asks exactly this, and it is taken out and changed as such
-pub record Found (t a i : ℕ) (ps : List Place) (w : Place) : Type 0 where
-  pub exact : first (asksExactly a t) ps ≡ some w
-  pub ends : withoutAt i ps ≡ without (asksExactly a t) ps
-  pub turns : (f : Place → Place) → changedAt f i ps ≡ changed f (asksExactly a t) ps
-
-pub innermost-at : (t a i : ℕ) (ps : List Place) (w : Place) → find (openOn t) ps ≡ At i → first (openOn t) ps ≡ some w → w .asked ≡ a → Found t a i ps w
-innermost-at t a i ps w f e y =
-    let x : asksExactly a t w ≡ true = rw (first-yes (openOn t) ps w e) (eq-eqb (w .asked) a y) in
-    let s = first-strong (asksExactly a t) (openOn t) (exact-on a t) ps w e x in record {
-      exact = s .found;
-      ends = end-found (openOn t) ps i f ∙ sym (s .taken);
-      turns = λ g. change-found g (openOn t) ps i f ∙ sym (s .turned g);
-    }
+    pub replaced-reset : someOf (standsIn h) (v .places) ≡ false → judgeReplaced v a ≡ Reset h
+    unfolding judgeReplaced
+    replaced-reset s = rw (← e, y, s)

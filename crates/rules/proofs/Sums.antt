@@ -116,4 +116,4 @@ c5 = record { outcome = refl; reply = λ buffer. refl }
 
 pub c11 : (v : View) (room : ℕ) (s : List ℕ) (h : Head) → 10 ≤ room → readOf s ≡ Message h → listed (handlerOf (h .source)) (v .rows) ≡ true → h .thread ≡ 8
     → judge v room (message s) ≡ Refused ThreadAbove7
-c11 v room s h enough e y t = message-thread v room s enough h e y (omega arith)
+c11 v room s h enough e y t = message-thread v room s enough (readOf s) refl h e y (omega arith)

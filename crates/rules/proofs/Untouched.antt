@@ -2,10 +2,21 @@
 use Prim.Native.Nat.{ℕ}
 use mathlib.Core.Path.{_≡_, refl}
 use mathlib.Core.List.{List}
+use mathlib.Core.Option.{Option, none, some}
+use lib.Dec.{eqb, ltb}
+use Rattle.lists.specs.Lists.{someOf, first}
+use Rattle.lists.proofs.Tests.{split, checks-are}
 use Rattle.tapa.specs.declared.Refusal.{Refusal}
+use Rattle.message.specs.declared.Head.{Head}
+use Rattle.message.specs.declared.Coded.{Coded}
+use Rattle.message.specs.declared.Coded.the-variants.{Code, Missing}
+use Rattle.places.specs.declared.Place.{Place}
+use Rattle.places.specs.Places.{openOn, owesExactly}
 use Rattle.rules.specs.View.{View}
+use Rattle.rules.specs.declared.Outcome.{Outcome}
 use Rattle.rules.specs.declared.Outcome.the-variants.{Passed, Answered, Swallowed, Event, Reset, Refused}
-use Rattle.rules.specs.Apply.{applied, written}
+use Rattle.rules.specs.Judge.{answerable, late, reply, judgeResponse, rules, judgeCommand, yields, judgeGiveUp}
+use Rattle.rules.specs.Apply.{applied, rowsAfter, written}
 
 -- 'Other outcomes of a message leave the reply buffer untouched.'
 pub record Untouched (buffer : List ℕ) : Type 0 where
@@ -34,3 +45,41 @@ event-stays v = refl
 -- only an answered response opens or closes: a swallowed one leaves every mark
 pub swallowed-marks : (v : View) (asked t : ℕ) → applied (Swallowed asked t) v .rows ≡ v .rows
 swallowed-marks v asked t = refl
+
+-- ---- what a kind of message leaves
+
+-- a command opens and closes nothing
+pub command-rows : (v : View) (h : Head) → v .rows ≡ rowsAfter (judgeCommand v h) v
+unfolding judgeCommand
+command-rows v h =
+    checks-are (λ (o : Outcome). v .rows ≡ rowsAfter o v) (rules v h) (Passed (h .source) (h .destination) (h .kind) (h .thread))
+    (refl, (refl, (refl, (refl, (refl, (refl, tt)))))) (λ a. refl)
+
+-- neither does a late response
+pub late-rows : (v : View) (h : Head) → v .rows ≡ rowsAfter (late (v .places) h) v
+unfolding late
+late-rows v h = split (someOf (owesExactly (h .source) (h .thread)) (v .places)) (λ p. rw p) (λ p. rw p)
+
+-- nor a give up
+pub give-up-rows : (v : View) (room t : ℕ) → v .rows ≡ rowsAfter (judgeGiveUp v room t) v
+unfolding judgeGiveUp yields
+give-up-rows v room t =
+    split (ltb room 10) (λ p. rw p)
+    (λ p. rw p (split (ltb 7 t) (λ q. rw q) (λ q. rw q (go (first (openOn t) (v .places))))))
+  where
+    go : (o : Option Place) → v .rows ≡ rowsAfter (yields o) v
+    go none = refl
+    go (some w) = refl
+
+-- a response writes nothing
+pub response-writes : (places : List Place) (h : Head) (coded : Coded) (buffer : List ℕ) → buffer ≡ written (judgeResponse places h coded) buffer
+unfolding judgeResponse reply late
+response-writes places h coded buffer = go coded
+  where
+    goes : (o : Option Place) (code : ℕ) → buffer ≡ written (reply places o h code) buffer
+    goes none code = split (someOf (owesExactly (h .source) (h .thread)) places) (λ p. rw p) (λ p. rw p)
+    goes (some w) code = split (eqb (w .asker) (h .destination)) (λ p. rw p) (λ p. rw p)
+
+    go : (k : Coded) → buffer ≡ written (judgeResponse places h k) buffer
+    go Missing = refl
+    go (Code code) = goes (answerable places (h .source) (h .thread)) code

@@ -63,6 +63,10 @@ judgeEvent rows = cond (openedAt eventHandler rows) Event (Refused EventCannotBe
 
 -- ---- Any other type
 
+-- rule c: 'asked handler closed, and not Open Handler'
+abbrev pub closedTo : List Row → (handler kind : ℕ) → Bool
+closedTo rows h kind = not (openedAt h rows) && not (eqb kind openHandler)
+
 -- rule d: who may ask over the innermost wait or, 'where the chain is empty', over none
 abbrev pub allows : Option Place → ℕ → Bool
 allows none a = eqb (categoryOf a) 1
@@ -84,7 +88,7 @@ abbrev pub rules : View → Head → List (Bool × Outcome)
 rules v h =
     (not (listed (handlerOf (h .destination)) (v .rows)), turned h invalidDestination)
     ∷ (not (known (categoryOf (h .destination)) (h .kind)), turned h unsupportedOperation)
-    ∷ (not (openedAt (handlerOf (h .destination)) (v .rows)) && not (eqb (h .kind) openHandler), turned h mustBeOpened)
+    ∷ (closedTo (v .rows) (handlerOf (h .destination)) (h .kind), turned h mustBeOpened)
     ∷ (not (mayAsk (v .places) (h .thread) (h .source)), turned h handlerError)
     ∷ (busy (v .places) (h .source) (handlerOf (h .destination)) (h .thread), turned h handlerBusy)
     ∷ (leb 48 (length (v .places)), turned h insufficientResources)

@@ -14,14 +14,13 @@ use Rattle.table.specs.declared.Checked.{Checked}
 use Rattle.table.specs.declared.Checked.the-variants.{Accepted, Refused}
 use Rattle.table.specs.Table.{heldRows, Held, noRows, withRow, rowsRead, judgeTable, judgeRows, keptBy}
 use Rattle.table.proofs.Judged.{accepted, judge-reverse}
-use Rattle.table.proofs.Read.{read-held, read-rows, read-next, judge-read}
+use Rattle.table.proofs.Read.{read-held, read-rows, read-next, judge-read, rows-proper}
 use Rattle.rules.specs.View.{fresh}
 use Rattle.lists.proofs.Tests.{split}
 use Rattle.router.specs.declared.Router.{Router}
-use Rattle.router.specs.declared.Started.{Started}
-use Rattle.router.specs.Start.{freshOver, startWith}
-use Rattle.table.proofs.Read.{rows-proper}
-use Rattle.router.proofs.Starts.{fresh-lawful}
+use Rattle.start.specs.declared.Started.{Started}
+use Rattle.start.specs.Start.{freshOver, startWith}
+use Rattle.start.proofs.Starts.{fresh-lawful}
 use Rattle.fields.specs.declared.NextRow.{NextRow}
 use Rattle.fields.specs.declared.NextRow.the-variants.{Row, Torn, Over}
 use Rattle.fields.specs.Fields.{Steps, Script}

@@ -14,7 +14,7 @@ use Rattle.rules.specs.Apply.{applied}
 use Rattle.rules.specs.declared.Outcome.{Outcome}
 use Rattle.router.specs.declared.Router.{Router}
 use Rattle.router.specs.Router.{viewOf, Lawful}
-use Rattle.router.specs.Start.{freshOver}
+use Rattle.start.specs.Start.{freshOver}
 use Rattle.fields.specs.declared.NextRow.{NextRow}
 use Rattle.fields.specs.declared.NextRow.the-variants.{Row, Torn, Over}
 use Rattle.fields.specs.declared.NextStep.{NextStep}

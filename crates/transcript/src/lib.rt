@@ -296,7 +296,7 @@ fn opened(rows: Rows, at: usize, number: usize) -> Session
     requires { ⌜ Held rows ⌝ }
     ensures { λ r. ⌜ r ≡ openedBy (judgeRows rows) rows at number ⌝ }
 {
-    let started = router::start_with(rows);
+    let started = start::start_with(rows);
     let answer = started.answer;
     match answer {
         Checked::Refused(refusal) => settled(at, number, Pending::Refused(refusal)),

@@ -2,10 +2,9 @@
 use mathlib.Core.Path.{subst, sym, ap, _∙_}
 use Rattle.table.specs.declared.Rows.{Rows}
 use Rattle.table.specs.Table.{withRow}
-use Rattle.table.proofs.Read.{none-held, with-held}
-use Rattle.router.specs.declared.Started.{Started}
+use Rattle.start.specs.declared.Started.{Started}
 use Rattle.router.specs.Router.{Lawful}
-use Rattle.router.specs.Start.{startWith}
+use Rattle.start.specs.Start.{startWith}
 use Rattle.bench.proofs.Laws.{firstRow, first-lawful}
 use borrow.Author.Needs.{needs}
 use Rattle.bench.proofs.first_router.Statement.{statement}
@@ -18,7 +17,7 @@ with-row-requires : tie.Need-with-row-requires
 with-row-requires c κs = search needs
 
 start-with-requires : tie.Need-start-with-requires
-start-with-requires c κs = rw (c .with-row .ensures, c .before .no-rows .ensures) (with-held _ _ none-held)
+start-with-requires c κs = search needs
 
 returns : tie.Need-returns
 returns c =

@@ -1,11 +1,11 @@
 -- `bench::Parts::on_start` meets its contract: a router over an accepted table is lawful. Assumes nothing.
-use mathlib.Core.Path.{subst, sym, ap, _∙_}
+use mathlib.Core.Path.{subst, sym}
 use Rattle.table.specs.declared.Rows.{Rows}
 use Rattle.table.specs.Table.{Held}
 use Rattle.table.proofs.Read.{none-held}
-use Rattle.router.specs.declared.Started.{Started}
+use Rattle.start.specs.declared.Started.{Started}
 use Rattle.router.specs.Router.{Lawful}
-use Rattle.router.proofs.Starts.{start-lawful}
+use Rattle.start.proofs.Starts.{start-law}
 use borrow.Author.Needs.{needs}
 use Rattle.bench.proofs.Parts.on_start.Statement.{statement}
 use Rattle.bench.proofs.Parts.on_start.Tie as tie
@@ -29,7 +29,7 @@ enum-told : tie.Need-enum-told
 enum-told c = search needs
 
 with-router-requires : tie.Need-with-router-requires
-with-router-requires c κs = (search needs, subst (λ (s : Started). Lawful (s .router)) (sym (c .before .before .before .before .start-with .ensures)) (start-lawful _ (ap (λ (s : Started). s .answer) (sym (c .before .before .before .before .start-with .ensures)) ∙ c .enum-told .given .1) (c .before .before .before .before .before .before .pre .rows)))
+with-router-requires c κs = (search needs, subst (λ (s : Started). Lawful (s .router)) (sym (c .before .before .before .before .start-with .ensures)) (start-law _ (c .before .before .before .before .before .before .pre .rows)))
 
 slice-aggregate-put-all : tie.Need-slice-aggregate-put-all
 slice-aggregate-put-all c = search needs

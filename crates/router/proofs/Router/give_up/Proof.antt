@@ -4,14 +4,14 @@ use borrow.Author.Needs.{needs}
 use Rattle.router.proofs.Router.give_up.Statement.{statement}
 use Rattle.router.proofs.Router.give_up.Tie as tie
 
-give-in-requires : tie.Need-give-in-requires
-give-in-requires c κs = search needs
+on-give-up-requires : tie.Need-on-give-up-requires
+on-give-up-requires c κs = search needs
 
 same-length : tie.Need-same-length
 same-length c = search needs
 
 returns : tie.Need-returns
-returns c = gives-up (c .before .before .before .before .before .before .before .before .before .args .self) (c .before .before .before .before .before .before .before .before .before .pre) _ (c .before .before .before .before .before .before .before .before .before .args .thread) _ _ _ _ (c .before .before .give-in .ensures)
+returns c = gives-up (c .before .before .before .before .before .before .before .before .before .args .self) (c .before .before .before .before .before .before .before .before .before .pre) _ (c .before .before .before .before .before .before .before .before .before .args .thread) _ _ _ _ (c .before .before .on-give-up .ensures)
 
 pub give-up-spec : {M : Type 1} → statement M
-give-up-spec = tie.close (tie.spec give-in-requires same-length returns)
+give-up-spec = tie.close (tie.spec on-give-up-requires same-length returns)

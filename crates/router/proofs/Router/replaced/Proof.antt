@@ -5,11 +5,11 @@ use borrow.Author.Needs.{needs}
 use Rattle.router.proofs.Router.replaced.Statement.{statement}
 use Rattle.router.proofs.Router.replaced.Tie as tie
 
-replaced-in-requires : tie.Need-replaced-in-requires
-replaced-in-requires c κs = search needs
+on-replaced-requires : tie.Need-on-replaced-requires
+on-replaced-requires c κs = search needs
 
 returns : tie.Need-returns
-returns c = replaces (c .before .before .before .before .before .before .before .args .self) (c .before .before .before .before .before .before .before .pre) 0 (replaced (c .before .before .before .before .before .before .before .args .address)) _ _ _ (c .replaced-in .ensures)
+returns c = replaces (c .before .before .before .before .before .before .before .args .self) (c .before .before .before .before .before .before .before .pre) 0 (replaced (c .before .before .before .before .before .before .before .args .address)) _ _ _ (c .on-replaced .ensures)
 
 pub replaced-spec : {M : Type 1} → statement M
-replaced-spec = tie.close (tie.spec replaced-in-requires returns)
+replaced-spec = tie.close (tie.spec on-replaced-requires returns)

@@ -5,14 +5,14 @@ use borrow.Author.Needs.{needs}
 use Rattle.router.proofs.Router.route.Statement.{statement}
 use Rattle.router.proofs.Router.route.Tie as tie
 
-route-in-requires : tie.Need-route-in-requires
-route-in-requires c κs = search needs
+on-message-requires : tie.Need-on-message-requires
+on-message-requires c κs = search needs
 
 same-length : tie.Need-same-length
 same-length c = search needs
 
 returns : tie.Need-returns
-returns c = routes (c .before .before .before .before .before .before .before .before .before .before .before .before .args .self) (c .before .before .before .before .before .before .before .before .before .before .before .before .pre) _ (message (c .before .before .before .before .before .before .before .before .before .before .before .before .args .message .now)) _ _ _ _ _ (c .before .before .route-in .ensures)
+returns c = routes (c .before .before .before .before .before .before .before .before .before .before .before .before .args .self) (c .before .before .before .before .before .before .before .before .before .before .before .before .pre) _ (message (c .before .before .before .before .before .before .before .before .before .before .before .before .args .message .now)) _ _ _ _ _ (c .before .before .on-message .ensures)
 
 pub route-spec : {M : Type 1} → statement M
-route-spec = tie.close (tie.spec route-in-requires same-length returns)
+route-spec = tie.close (tie.spec on-message-requires same-length returns)

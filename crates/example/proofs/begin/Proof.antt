@@ -1,0 +1,26 @@
+-- `example::begin` meets its contract: a start from lent rows hands back a lawful router. Assumes nothing.
+use mathlib.Core.Path.{sym, ap, subst, _∙_}
+use Rattle.start.specs.declared.Started.{Started}
+use Rattle.start.specs.Start.{startFrom}
+use Rattle.start.proofs.Starts.{lent-law}
+use Rattle.router.specs.Router.{Lawful}
+use borrow.Author.Needs.{needs}
+use Rattle.example.proofs.begin.Statement.{statement}
+use Rattle.example.proofs.begin.Tie as tie
+
+array-set-from-rows : tie.Need-array-set-from-rows
+array-set-from-rows c = search needs
+
+set-up-own-requires : tie.Need-set-up-own-requires
+set-up-own-requires c κs = search needs
+
+start-from-requires : tie.Need-start-from-requires
+start-from-requires c κs = search needs
+
+returns : tie.Need-returns
+returns c =
+    subst (λ (s : Started). Lawful (s .router)) (sym (c .start-from .ensures ∙ ap startFrom (c .before .set-up-own .ensures)))
+    (lent-law _)
+
+pub begin-spec : {M : Type 1} → statement M
+begin-spec = tie.close (tie.spec array-set-from-rows set-up-own-requires start-from-requires returns)

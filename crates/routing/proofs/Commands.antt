@@ -1,0 +1,55 @@
+-- Any other type: what is done by what the rules say.
+use Prim.Native.Nat.{ℕ, _≤_, _<_}
+use mathlib.Core.Path.{_≡_, refl, _∙_}
+use mathlib.Core.List.{List}
+use lib.ListN.{length}
+use borrow.Author.Tests.{le-ltb, lt-ltb, leb-false}
+use Rattle.lists.specs.Lists.{onto}
+use Rattle.lists.proofs.Tests.{differ, checks-are}
+use Rattle.message.specs.declared.Head.{Head}
+use Rattle.message.specs.Message.{responded, responseOf}
+use Rattle.places.specs.declared.Place.{Place}
+use Rattle.places.specs.Places.{placesOf, Becomes, pushed}
+use Rattle.places.specs.Places as places
+use Rattle.rules.specs.View.{View}
+use Rattle.rules.specs.declared.Outcome.{Outcome}
+use Rattle.rules.specs.declared.Outcome.the-variants.{Passed}
+use Rattle.rules.specs.Judge.{turned, rules, judgeCommand}
+use Rattle.rules.specs.Apply.{place}
+use Rattle.routing.specs.Steps.{Writing}
+
+module _ (v : View) (h : Head) where
+  -- a passed command finds room
+  pub room : Passed (h .source) (h .destination) (h .kind) (h .thread) ≡ judgeCommand v h → length (v .places) < 48
+  unfolding judgeCommand
+  room e =
+      checks-are (λ (o : Outcome). Passed (h .source) (h .destination) (h .kind) (h .thread) ≡ o → length (v .places) < 48) (rules v h)
+      (Passed (h .source) (h .destination) (h .kind) (h .thread))
+      (λ q. differ (cc), (λ q. differ (cc), (λ q. differ (cc), (λ q. differ (cc), (λ q. differ (cc), (λ q. differ (cc), tt))))))
+      (λ a q. leb-false 48 (length (v .places)) (a .1 .1 .1 .1 .1 .0)) e
+
+-- ---- what is done
+
+module _ (l : List ℕ) (n : ℕ) (g : places.Lawful l n) (h : Head) (o : Outcome) (b : List ℕ) where
+  pub turns : (code : ℕ) (after : List ℕ) (u : Outcome)
+      → u ≡ turned h code
+      → turned h code ≡ o
+      → 10 ≤ length b
+      → after ≡ responded (h .source) (h .destination) (h .thread) code b
+      → Writing o (placesOf l n) l b after (record { outcome = u; len = n })
+  turns code after u d e k w =
+      let s : after ≡ onto (responseOf (h .source) (h .destination) (h .thread) code) b = w ∙ rw (le-ltb (length b) 10 k) in
+      rw (← e) (record { placing = record { outcome = d; places = record { holds = refl; law = g } }; reply = s })
+
+  pub passes : (more : ℕ) (m : List ℕ) (u : Outcome) (w : Place)
+      → u ≡ Passed (h .source) (h .destination) (h .kind) (h .thread)
+      → w ≡ place (h .source) (h .destination) (h .kind) (h .thread)
+      → Passed (h .source) (h .destination) (h .kind) (h .thread) ≡ o
+      → length (placesOf l n) < 48
+      → Becomes m more (pushed w (placesOf l n))
+      → Writing o (placesOf l n) m b b (record { outcome = u; len = more })
+  passes more m u w d f e k p =
+      rw (← e) (record {
+        placing = record { outcome = d; places = record { holds = p .holds ∙ rw (lt-ltb (length (placesOf l n)) 48 k, f); law = p .law } };
+        reply = refl;
+      })

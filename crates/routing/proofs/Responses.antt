@@ -1,0 +1,99 @@
+-- Type 'FF': what is done with the place that was found.
+use Prim.Native.Nat.{ℕ}
+use mathlib.Core.Path.{_≡_, refl, sym, ap, _∙_}
+use mathlib.Core.Bool.{Bool, true, false}
+use mathlib.Core.List.{List}
+use mathlib.Core.Option.{Option}
+use borrow.Author.Tests.{eq-eqb, ne-eqb}
+use Rattle.lists.specs.declared.Found.the-variants.{At, Nothing}
+use Rattle.lists.specs.Lists.{find, withoutAt}
+use Rattle.lists.proofs.First.{first-meets, none-passes}
+use Rattle.lists.proofs.Numbers.{find-none, end-found}
+use Rattle.tapa.specs.Address.{handlerOf}
+use Rattle.tapa.specs.Codes.{successful, openHandler, closeHandler}
+use Rattle.tapa.specs.declared.Refusal.the-variants.{StrayResponse}
+use Rattle.message.specs.declared.Head.{Head}
+use Rattle.table.specs.Table.{rowsOf, Columns, Opened}
+use Rattle.places.specs.declared.Place.{Place}
+use Rattle.places.specs.Places.{placeAt, placesOf, asksExactly, owesExactly, Becomes}
+use Rattle.places.proofs.Walks.{here}
+use Rattle.rules.specs.declared.Outcome.{Outcome}
+use Rattle.rules.specs.declared.Outcome.the-variants.{Answered, Swallowed, Refused}
+use Rattle.rules.specs.Judge.{late}
+use Rattle.rules.specs.Apply.{reopened}
+use Rattle.rules.proofs.Steps.{late-swallowed, late-stray}
+use Rattle.rules.proofs.Untouched.{late-rows}
+use Rattle.ruling.specs.Ruling.{heldView}
+use Rattle.ruling.proofs.Answers.{Answers}
+use Rattle.routing.specs.Steps.{Placing, Moving, Reopening}
+
+-- ---- a late response
+
+module _ (l : List ℕ) (n : ℕ) (h : Head) where
+  pub swallows : (i k : ℕ) (m : List ℕ)
+      → find (owesExactly (h .source) (h .thread)) (placesOf l n) ≡ At i
+      → Becomes m k (withoutAt i (placesOf l n))
+      → Placing (late (placesOf l n) h) (placesOf l n) m (record { outcome = Swallowed (h .source) (h .thread); len = k })
+  swallows i k m f b =
+      let q = owesExactly (h .source) (h .thread) in
+      let w = here q l n i f in
+      rw (late-swallowed (placesOf l n) h (first-meets q q (placesOf l n) (placeAt l i) (w .it) (w .meets)))
+      (record { outcome = refl; places = record { holds = b .holds ∙ end-found q (placesOf l n) i f; law = b .law } })
+
+  pub strays : find (owesExactly (h .source) (h .thread)) (placesOf l n) ≡ Nothing → late (placesOf l n) h ≡ Refused StrayResponse
+  strays f =
+      let q = owesExactly (h .source) (h .thread) in
+      late-stray (placesOf l n) h (none-passes q (placesOf l n) (find-none q (placesOf l n) f))
+
+-- ---- a handler opened or closed
+
+module _ (a : List ℕ) (before : List Bool) (n : ℕ) (w : Place) (code : ℕ) where
+  pub reopens-not : Columns a before n → (code ≡ successful → ⊥) → Reopening a before before n w code
+  unfolding reopened
+  reopens-not c x = record { rows = rw (ne-eqb code successful x); columns = c }
+
+  pub reopens-other : Columns a before n → code ≡ successful → (w .kind ≡ openHandler → ⊥) → (w .kind ≡ closeHandler → ⊥) → Reopening a before before n w code
+  unfolding reopened
+  reopens-other c e x y =
+      record { rows = rw (eq-eqb code successful e, ne-eqb (w .kind) openHandler x, ne-eqb (w .kind) closeHandler y); columns = c }
+
+  module _ (after : List Bool) (h : ℕ) (e : code ≡ successful) (k : h ≡ handlerOf (w .asked)) where
+    pub reopens-open : w .kind ≡ openHandler → Opened a before after n h true → Reopening a before after n w code
+    unfolding reopened
+    reopens-open x o = record {
+      rows = rw (eq-eqb code successful e, eq-eqb (w .kind) openHandler x) (rw k at (o .holds));
+      columns = o .law;
+    }
+
+    pub reopens-close : (w .kind ≡ openHandler → ⊥) → w .kind ≡ closeHandler → Opened a before after n h false → Reopening a before after n w code
+    unfolding reopened
+    reopens-close y x o = record {
+      rows = rw (eq-eqb code successful e, ne-eqb (w .kind) openHandler y, eq-eqb (w .kind) closeHandler x) (rw k at (o .holds));
+      columns = o .law;
+    }
+
+-- ---- a response
+
+module _ (a : List ℕ) (before : List Bool) (n : ℕ) (l : List ℕ) (k : ℕ) (o : Outcome) where
+  pub late-moves : (h : Head) (m : List ℕ) (less : ℕ) (u : Outcome)
+      → o ≡ late (placesOf l k) h
+      → Columns a before n
+      → Placing (late (placesOf l k) h) (placesOf l k) m (record { outcome = u; len = less })
+      → Moving o (heldView a before n l k) a before n m (record { outcome = u; len = less })
+  late-moves h m less u e c p = rw e (record { placing = p; rows = late-rows (heldView a before n l k) h; columns = c })
+
+  pub answers : (after : List Bool) (m : List ℕ) (less i code source dest t : ℕ)
+      → o ≡ Answered source dest t code
+      → Answers l k source t i
+      → Reopening a before after n (placeAt l i) code
+      → Becomes m less (withoutAt i (placesOf l k))
+      → Moving o (heldView a before n l k) a after n m (record { outcome = Answered source dest t code; len = less })
+  answers after m less i code source dest t e x r b =
+      rw e (record {
+        placing = record {
+          outcome = refl;
+          places = record { holds = b .holds ∙ end-found (asksExactly source t) (placesOf l k) i (x .found); law = b .law };
+        };
+        rows = r .rows ∙ ap (λ (w : Option Place). reopened w code (rowsOf a before n)) (sym (x .first-is));
+        columns = r .columns;
+      })

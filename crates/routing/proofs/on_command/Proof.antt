@@ -1,0 +1,60 @@
+-- `routing::on_command` meets its contract: what the rules say is done. Assumes nothing.
+use mathlib.Core.Path.{sym, ap, _∙_}
+use Rattle.ruling.specs.Ruling.{ruled}
+use Rattle.routing.proofs.Commands.{turns, passes, room}
+use borrow.Author.Needs.{needs}
+use Rattle.routing.proofs.on_command.Statement.{statement}
+use Rattle.routing.proofs.on_command.Tie as tie
+
+rule-for-requires : tie.Need-rule-for-requires
+rule-for-requires c κs = search needs
+
+enum-known-code : tie.Need-enum-known-code
+enum-known-code c = search needs
+
+respond-requires : tie.Need-respond-requires
+respond-requires c κs = search needs
+
+turned-back-requires : tie.Need-turned-back-requires
+turned-back-requires c κs = search needs
+
+enum-told : tie.Need-enum-told
+enum-told c = search needs
+
+wait-of-requires : tie.Need-wait-of-requires
+wait-of-requires c κs = search needs
+
+push-requires : tie.Need-push-requires
+push-requires c κs = search needs
+
+passed-requires : tie.Need-passed-requires
+passed-requires c κs = search needs
+
+same-length : tie.Need-same-length
+same-length c = search needs
+
+returns : tie.Need-returns
+returns c = let s = c .before .before .before .before .before .before .before .before .before .before .before in
+    turns _ _ (s .pre .0) (s .args .head) _ _ _ _ _ (c .turned-back .ensures)
+    (ap (ruled (s .args .head)) (sym (c .before .before .before .before .before .before .code .given .1)) ∙ c .before .before .before .before .before .before .before .before .rule-for .ensures) (s .pre .1 .1) (c .before .before .before .respond .ensures)
+
+returns-2 : tie.Need-returns-2
+returns-2 c = let s = c .before .before .before .before .before .before .before .before .before in
+    let e = ap (ruled (s .args .head)) (sym (c .before .before .before .before .enum-told .given .1)) ∙ c .before .before .before .before .before .before .rule-for .ensures in
+    passes _ _ (s .pre .0) (s .args .head) _ _ _ _ _ _ (c .passed .ensures) (c .before .before .wait-of .ensures) e (room _ (s .args .head) e) (c .before .push .ensures)
+
+pub on-command-spec : {M : Type 1} → statement M
+on-command-spec =
+    tie.close
+    (tie.spec
+    rule-for-requires
+    enum-known-code
+    respond-requires
+    turned-back-requires
+    enum-told
+    wait-of-requires
+    push-requires
+    passed-requires
+    same-length
+    returns
+    returns-2)

@@ -1,0 +1,59 @@
+-- `routing::on_type` meets its contract: by type, each as its own function shows. Assumes nothing.
+use mathlib.Core.Path.{refl, sym, ap, _∙_}
+use Rattle.message.specs.Message.{codeOf}
+use Rattle.rules.proofs.Steps.{kind-response, kind-event, kind-command}
+use Rattle.routing.proofs.Messages.{response-steps, event-steps, command-steps}
+use borrow.Author.Needs.{needs}
+use Rattle.routing.proofs.on_type.Statement.{statement}
+use Rattle.routing.proofs.on_type.Tie as tie
+
+data-part-requires : tie.Need-data-part-requires
+data-part-requires c κs = search needs
+
+response-code-requires : tie.Need-response-code-requires
+response-code-requires c κs = search needs
+
+on-response-requires : tie.Need-on-response-requires
+on-response-requires c κs = search needs
+
+returns : tie.Need-returns
+returns c = let s = c .before .before .before .before .before .before .before .before .before in
+    response-steps _ (s .args .head) _ _ _ _ _ _ _ _ _ (kind-response _ _ _ (c .before .before .before .before .before .if1 .taken))
+    (c .before .before .before .response-code .ensures ∙ ap codeOf (c .before .before .before .before .data-part .ensures .bytes)) (c .on-response .ensures)
+
+is-add-event-requires : tie.Need-is-add-event-requires
+is-add-event-requires c κs = search needs
+
+event-requires : tie.Need-event-requires
+event-requires c κs = search needs
+
+returns-2 : tie.Need-returns-2
+returns-2 c = let s = c .before .before .before .before .before .before .before .before in
+    event-steps _ _ _ _ _ (s .pre .0) (s .pre .1 .0) _ _ _
+    (kind-event _ _ _ (c .before .before .before .before .if1 .left) (sym (c .before .before .before .is-add-event .ensures) ∙ c .before .before .if2 .taken)) (c .event .ensures)
+
+on-command-requires : tie.Need-on-command-requires
+on-command-requires c κs = search needs
+
+same-length : tie.Need-same-length
+same-length c = search needs
+
+returns-3 : tie.Need-returns-3
+returns-3 c = let s = c .before .before .before .before .before .before .before .before .before .before .before .before in
+    command-steps _ (s .args .head) _ _ _ _ _ _ _ _
+    (kind-command _ _ _ (c .before .before .before .before .before .before .before .before .if1 .left) (sym (c .before .before .before .before .before .before .before .is-add-event .ensures) ∙ c .before .before .before .before .before .before .if2 .left)) refl (s .pre .1 .0) (c .before .before .on-command .ensures)
+
+pub on-type-spec : {M : Type 1} → statement M
+on-type-spec =
+    tie.close
+    (tie.spec
+    data-part-requires
+    response-code-requires
+    on-response-requires
+    returns
+    is-add-event-requires
+    event-requires
+    returns-2
+    on-command-requires
+    same-length
+    returns-3)

@@ -1,0 +1,313 @@
+// Routing one message: what a call does to the arrays of a state, in place.
+//
+// The functions are split as the rules are: a response, an event, a command, a give up, a replaced
+// call. `ruling` decides, and what it says is done here. Each is held to the rules' own definitions,
+// `judge..` and `applied`. `router` lends them the arrays of its state.
+use lists::Found;
+use message::Coded;
+use message::Head;
+use message::Reading;
+use places::Place;
+use rules::Outcome;
+use ruling::Ruling;
+use tapa::Refusal;
+ghost use mathlib.Core.Path.{_≡_};
+ghost use Prim.Native.Nat.{_≤_};
+ghost use lib.ListN.{length};
+ghost use Rattle.message.specs.Message.{codeOf, partOf};
+ghost use Rattle.table.specs.Table.{Columns};
+ghost use Rattle.places.specs.Places.{placesOf};
+ghost use Rattle.places.specs.Places as places;
+ghost use Rattle.rules.specs.Judge.{late, judgeResponse, turned, judgeCommand, judgeKind, judgeMessage, judgeReplaced};
+ghost use Rattle.rules.specs.Apply.{place};
+ghost use Rattle.ruling.specs.Ruling.{heldView, ruled};
+ghost use Rattle.ruling.specs.declared.Ruling.the-variants.{On};
+ghost use Rattle.routing.specs.Steps.{refusing, Placing, Writing, Moving, Stepping, Reopening, Giving};
+
+// What a function that works in place answers: the outcome, and how many places there are now.
+pub struct Step {
+    pub outcome: Outcome,
+    pub len: usize,
+}
+
+// A refusal changes nothing.
+fn refuse(refusal: Refusal, len: usize) -> Step
+    ensures { λ r. ⌜ r ≡ refusing refusal len ⌝ }
+{
+    Step {
+        outcome: Outcome::Refused(refusal),
+        len,
+    }
+}
+
+// ---- Type 'FF'
+
+// The handler of an answered Open Handler or Close Handler becomes open or closed.
+fn open_or_close(
+    addresses: &[u16; 16],
+    opens: &mut [bool; 16],
+    count: usize,
+    wait: Place,
+    code: u16,
+)
+    requires { ⌜ Columns (now addresses) (now opens) count ⌝ }
+    ensures { λ _. ⌜ Reopening (now (addresses .entry)) (now (opens .entry)) (now (opens .exit)) count wait code ⌝ }
+{
+    if code != tapa::SUCCESSFUL {
+        return;
+    }
+    if wait.kind == tapa::OPEN_HANDLER {
+        table::set_open(addresses, opens, count, tapa::handler(wait.asked), true);
+        return;
+    }
+    if wait.kind == tapa::CLOSE_HANDLER {
+        table::set_open(addresses, opens, count, tapa::handler(wait.asked), false);
+    }
+}
+
+// A response that no wait wants: it is owed, or it is a stray.
+fn on_late(list: &mut [u64; 48], len: usize, head: Head) -> Step
+    requires { ⌜ places.Lawful (now list) len ⌝ }
+    ensures { λ s. ⌜ Placing (late (placesOf (now (list .entry)) len) head) (placesOf (now (list .entry)) len) (now (list .exit)) s ⌝ }
+{
+    match places::find_owed(list, len, head.source, head.thread) {
+        Found::At(i) => {
+            let less = places::remove(list, len, i);
+            Step {
+                outcome: Outcome::Swallowed {
+                    asked: head.source,
+                    thread: head.thread,
+                },
+                len: less,
+            }
+        }
+        Found::Nothing => refuse(Refusal::StrayResponse, len),
+    }
+}
+
+fn on_response(
+    addresses: &[u16; 16],
+    opens: &mut [bool; 16],
+    count: usize,
+    list: &mut [u64; 48],
+    len: usize,
+    head: Head,
+    coded: Coded,
+) -> Step
+    requires { ⌜ places.Lawful (now list) len ⌝ }
+    requires { ⌜ Columns (now addresses) (now opens) count ⌝ }
+    ensures { λ s. ⌜ Moving (judgeResponse (placesOf (now (list .entry)) len) head coded) (heldView (now (addresses .entry)) (now (opens .entry)) count (now (list .entry)) len) (now (addresses .entry)) (now (opens .exit)) count (now (list .exit)) s ⌝ }
+{
+    let Coded::Code(code) = coded else {
+        return refuse(Refusal::NoResponseCode, len);
+    };
+    let Found::At(at) = ruling::answer_at(list, len, head.source, head.thread) else {
+        return on_late(list, len, head);
+    };
+    let wait = places::place_at(list, len, at);
+    if wait.asker != head.destination {
+        return refuse(Refusal::WrongAsker, len);
+    }
+    open_or_close(addresses, opens, count, wait, code);
+    let less = places::remove(list, len, at);
+    Step {
+        outcome: Outcome::Answered {
+            asked: head.source,
+            asker: head.destination,
+            thread: head.thread,
+            code,
+        },
+        len: less,
+    }
+}
+
+// ---- Any other type
+
+fn turned_back(head: Head, code: u16) -> Outcome
+    ensures { λ r. ⌜ r ≡ turned head code ⌝ }
+{
+    Outcome::Turned {
+        asker: head.source,
+        asked: head.destination,
+        thread: head.thread,
+        code,
+    }
+}
+
+fn passed(head: Head) -> Outcome
+    ensures { λ r. ⌜ r ≡ ruled head On ⌝ }
+{
+    Outcome::Passed {
+        asker: head.source,
+        asked: head.destination,
+        kind: head.kind,
+        thread: head.thread,
+    }
+}
+
+// A passed command as a wait.
+fn wait_of(head: Head) -> Place
+    ensures { λ r. ⌜ r ≡ place (head .source) (head .destination) (head .kind) (head .thread) ⌝ }
+{
+    Place {
+        asker: head.source,
+        asked: head.destination,
+        kind: head.kind,
+        thread: head.thread,
+        owed: false,
+    }
+}
+
+// Does what the rules say: a response into the reply buffer, or one place more.
+fn on_command<'a>(
+    addresses: &'a [u16; 16],
+    opens: &'a [bool; 16],
+    count: usize,
+    list: &mut [u64; 48],
+    len: usize,
+    head: Head,
+    reply: &mut [u8],
+) -> Step
+    requires { ⌜ places.Lawful (now list) len ⌝ }
+    requires { ⌜ count ≤ 16 ⌝ }
+    requires { ⌜ 10 ≤ length (now reply) ⌝ }
+    ensures { λ s. ⌜ Writing (judgeCommand (heldView (now (addresses .entry)) (now (opens .entry)) count (now (list .entry)) len) head) (placesOf (now (list .entry)) len) (now (list .exit)) (now (reply .entry)) (now (reply .exit)) s ⌝ }
+{
+    match ruling::rule_for(addresses, opens, count, list, len, head) {
+        Ruling::Back(code) => {
+            message::respond(reply, head.source, head.destination, head.thread, code);
+            let outcome = turned_back(head, code);
+            Step { outcome, len }
+        }
+        Ruling::On => {
+            let more = places::push(list, len, wait_of(head));
+            let outcome = passed(head);
+            Step { outcome, len: more }
+        }
+    }
+}
+
+// ---- a message
+
+// A message that passed the common checks, by its type.
+fn on_type(
+    addresses: &[u16; 16],
+    opens: &mut [bool; 16],
+    count: usize,
+    list: &mut [u64; 48],
+    len: usize,
+    head: Head,
+    message: &[u8],
+    reply: &mut [u8],
+) -> Step
+    requires { ⌜ places.Lawful (now list) len ⌝ }
+    requires { ⌜ Columns (now addresses) (now opens) count ⌝ }
+    requires { ⌜ 10 ≤ length (now reply) ⌝ }
+    ensures { λ s. ⌜ Stepping (judgeKind (heldView (now (addresses .entry)) (now (opens .entry)) count (now (list .entry)) len) head (codeOf (partOf (now (message .entry))))) (heldView (now (addresses .entry)) (now (opens .entry)) count (now (list .entry)) len) (now (addresses .entry)) (now (opens .exit)) count (now (list .exit)) (now (reply .entry)) (now (reply .exit)) s ⌝ }
+{
+    if head.kind == tapa::RESPONSE {
+        let coded = message::response_code(message::data_part(message));
+        return on_response(addresses, opens, count, list, len, head, coded);
+    }
+    if ruling::is_add_event(head) {
+        let outcome = ruling::event(addresses, opens, count);
+        return Step { outcome, len };
+    }
+    on_command(addresses, opens, count, list, len, head, reply)
+}
+
+// The common checks, and then by type.
+pub fn on_message(
+    addresses: &[u16; 16],
+    opens: &mut [bool; 16],
+    count: usize,
+    list: &mut [u64; 48],
+    len: usize,
+    message: &[u8],
+    reply: &mut [u8],
+) -> Step
+    requires { ⌜ places.Lawful (now list) len ⌝ }
+    requires { ⌜ Columns (now addresses) (now opens) count ⌝ }
+    ensures { λ s. ⌜ Stepping (judgeMessage (heldView (now (addresses .entry)) (now (opens .entry)) count (now (list .entry)) len) (length (now (reply .entry))) (now (message .entry))) (heldView (now (addresses .entry)) (now (opens .entry)) count (now (list .entry)) len) (now (addresses .entry)) (now (opens .exit)) count (now (list .exit)) (now (reply .entry)) (now (reply .exit)) s ⌝ }
+{
+    if reply.len() < 10 {
+        return refuse(Refusal::BufferTooSmall, len);
+    }
+    match message::read(message) {
+        Reading::Refused(refusal) => refuse(refusal, len),
+        Reading::Message(head) => {
+            if !table::is_listed(addresses, opens, count, tapa::handler(head.source)) {
+                return refuse(Refusal::NotInTable, len);
+            }
+            if 7 < head.thread {
+                return refuse(Refusal::ThreadAbove7, len);
+            }
+            on_type(addresses, opens, count, list, len, head, message, reply)
+        }
+    }
+}
+
+// ---- Give up
+
+pub fn on_give_up(list: &mut [u64; 48], len: usize, thread: u8, reply: &mut [u8]) -> Step
+    requires { ⌜ places.Lawful (now list) len ⌝ }
+    ensures { λ s. ⌜ Giving (placesOf (now (list .entry)) len) (length (now (reply .entry))) thread (now (list .exit)) (now (reply .entry)) (now (reply .exit)) s ⌝ }
+{
+    if reply.len() < 10 {
+        return refuse(Refusal::BufferTooSmall, len);
+    }
+    if 7 < thread {
+        return refuse(Refusal::ThreadAbove7, len);
+    }
+    match places::innermost(list, len, thread) {
+        Found::Nothing => refuse(Refusal::NothingToGiveUp, len),
+        Found::At(at) => {
+            let wait = places::place_at(list, len, at);
+            message::respond(
+                reply,
+                wait.asker,
+                wait.asked,
+                wait.thread,
+                tapa::HANDLER_ERROR,
+            );
+            places::owe(list, len, at);
+            Step {
+                outcome: Outcome::Given {
+                    asker: wait.asker,
+                    asked: wait.asked,
+                    thread: wait.thread,
+                },
+                len,
+            }
+        }
+    }
+}
+
+// ---- Replaced
+
+pub fn on_replaced(
+    addresses: &[u16; 16],
+    opens: &mut [bool; 16],
+    count: usize,
+    list: &mut [u64; 48],
+    len: usize,
+    address: u16,
+) -> Step
+    requires { ⌜ places.Lawful (now list) len ⌝ }
+    requires { ⌜ Columns (now addresses) (now opens) count ⌝ }
+    ensures { λ s. ⌜ Moving (judgeReplaced (heldView (now (addresses .entry)) (now (opens .entry)) count (now (list .entry)) len) address) (heldView (now (addresses .entry)) (now (opens .entry)) count (now (list .entry)) len) (now (addresses .entry)) (now (opens .exit)) count (now (list .exit)) s ⌝ }
+{
+    let handler = tapa::handler(address);
+    if !table::is_listed(addresses, opens, count, handler) {
+        return refuse(Refusal::NotInTable, len);
+    }
+    if places::stands_in(list, len, handler) {
+        return refuse(Refusal::StandsInAWait, len);
+    }
+    table::set_open(addresses, opens, count, handler, false);
+    let less = places::drop_owed(list, len, handler);
+    Step {
+        outcome: Outcome::Reset { handler },
+        len: less,
+    }
+}

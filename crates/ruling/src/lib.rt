@@ -1,0 +1,142 @@
+// The code that decides: what the rules say of a message, with no change to anything.
+//
+// Each function is held to a definition of `rules`: the wait that a response can answer, whether an
+// event is taken, and which of the rules a to f is the first that applies to a command.
+use lists::Found;
+use message::Head;
+use rules::Outcome;
+use tapa::Refusal;
+ghost use mathlib.Core.Path.{_≡_};
+ghost use Prim.Native.Nat.{_≤_};
+ghost use Rattle.table.specs.Table.{rowsOf};
+ghost use Rattle.places.specs.Places.{placesOf, Lawful};
+ghost use Rattle.rules.specs.Judge.{isAddEvent, judgeEvent, closedTo, mayAsk, busy, judgeCommand};
+ghost use Rattle.ruling.specs.Ruling.{heldView, answerAt, ruled};
+
+// What the rules a to f say of a command: back with a code, or on.
+pub enum Ruling {
+    Back(u16),
+    On,
+}
+
+// ---- Type 'FF'
+
+// The wait that a response from `source` can answer: the innermost one of the thread, where it
+// asks exactly this address.
+pub fn answer_at(list: &[u64; 48], len: usize, source: u16, thread: u8) -> Found
+    requires { ⌜ Lawful (now list) len ⌝ }
+    ensures { λ r. ⌜ r ≡ answerAt (now (list .entry)) len source thread ⌝ }
+{
+    let found = places::innermost(list, len, thread);
+    let Found::At(i) = found else {
+        return found;
+    };
+    let wait = places::place_at(list, len, i);
+    if wait.asked != source {
+        return Found::Nothing;
+    }
+    found
+}
+
+// ---- Type 'C0' to handler '0700'
+
+pub fn is_add_event(head: Head) -> bool
+    ensures { λ r. ⌜ r ≡ isAddEvent head ⌝ }
+{
+    if head.kind != tapa::ADD_EVENT {
+        return false;
+    }
+    tapa::handler(head.destination) == tapa::EVENT_HANDLER
+}
+
+pub fn event<'a>(addresses: &'a [u16; 16], opens: &'a [bool; 16], count: usize) -> Outcome
+    requires { ⌜ count ≤ 16 ⌝ }
+    ensures { λ r. ⌜ r ≡ judgeEvent (rowsOf (now (addresses .entry)) (now (opens .entry)) count) ⌝ }
+{
+    if table::is_open(addresses, opens, count, tapa::EVENT_HANDLER) {
+        return Outcome::Event;
+    }
+    Outcome::Refused(Refusal::EventCannotBeTaken)
+}
+
+// ---- Any other type
+
+// Rule c: whether the handler is closed to a command of this type.
+fn is_closed<'a>(
+    addresses: &'a [u16; 16],
+    opens: &'a [bool; 16],
+    count: usize,
+    handler: u16,
+    kind: u8,
+) -> bool
+    requires { ⌜ count ≤ 16 ⌝ }
+    ensures { λ r. ⌜ r ≡ closedTo (rowsOf (now (addresses .entry)) (now (opens .entry)) count) handler kind ⌝ }
+{
+    if table::is_open(addresses, opens, count, handler) {
+        return false;
+    }
+    kind != tapa::OPEN_HANDLER
+}
+
+// Rule d: whether this source may ask on the thread.
+fn may_ask(list: &[u64; 48], len: usize, thread: u8, source: u16) -> bool
+    requires { ⌜ Lawful (now list) len ⌝ }
+    ensures { λ r. ⌜ r ≡ mayAsk (placesOf (now (list .entry)) len) thread source ⌝ }
+{
+    match places::innermost(list, len, thread) {
+        Found::At(i) => {
+            let wait = places::place_at(list, len, i);
+            tapa::handler(wait.asked) == tapa::handler(source)
+        }
+        Found::Nothing => tapa::category(source) == 1,
+    }
+}
+
+// Rule e: whether there is no room for a command from `source` to the handler.
+fn is_busy(list: &[u64; 48], len: usize, source: u16, handler: u16, thread: u8) -> bool
+    requires { ⌜ Lawful (now list) len ⌝ }
+    ensures { λ r. ⌜ r ≡ busy (placesOf (now (list .entry)) len) source handler thread ⌝ }
+{
+    if handler == tapa::handler(source) {
+        return true;
+    }
+    if places::stands_on(list, len, thread, handler) {
+        return true;
+    }
+    places::taken(list, len, handler, thread)
+}
+
+// The first of the rules a to f that applies.
+pub fn rule_for<'a>(
+    addresses: &'a [u16; 16],
+    opens: &'a [bool; 16],
+    count: usize,
+    list: &[u64; 48],
+    len: usize,
+    head: Head,
+) -> Ruling
+    requires { ⌜ Lawful (now list) len ⌝ }
+    requires { ⌜ count ≤ 16 ⌝ }
+    ensures { λ r. ⌜ ruled head r ≡ judgeCommand (heldView (now (addresses .entry)) (now (opens .entry)) count (now (list .entry)) len) head ⌝ }
+{
+    let handler = tapa::handler(head.destination);
+    if !table::is_listed(addresses, opens, count, handler) {
+        return Ruling::Back(tapa::INVALID_DESTINATION);
+    }
+    if !types::is_known(tapa::category(head.destination), head.kind) {
+        return Ruling::Back(tapa::UNSUPPORTED_OPERATION);
+    }
+    if is_closed(addresses, opens, count, handler, head.kind) {
+        return Ruling::Back(tapa::MUST_BE_OPENED);
+    }
+    if !may_ask(list, len, head.thread, head.source) {
+        return Ruling::Back(tapa::HANDLER_ERROR);
+    }
+    if is_busy(list, len, head.source, handler, head.thread) {
+        return Ruling::Back(tapa::HANDLER_BUSY);
+    }
+    if 48 <= len {
+        return Ruling::Back(tapa::INSUFFICIENT_RESOURCES);
+    }
+    Ruling::On
+}

@@ -1,0 +1,54 @@
+// The start: a fresh router over a table that is accepted.
+//
+// A program that lends its rows sets the table up with `table::set_up` or `table::set_up_own`, and
+// starts here from what that hands back.
+use router::Router;
+use table::Checked;
+use table::Rows;
+use table::SetUp;
+ghost use mathlib.Core.Path.{_≡_};
+ghost use Rattle.start.specs.Start.{blank as blankRouter, startFrom, startWith};
+
+// What a start answers, and the router; a refused table leaves a blank one.
+pub struct Started {
+    pub answer: Checked,
+    pub router: Router,
+}
+
+// The router that a refused table leaves: over no rows.
+pub fn blank() -> Router
+    ensures { λ r. ⌜ r ≡ blankRouter ⌝ }
+{
+    Router {
+        list: [0; 48],
+        len: 0,
+        addresses: [0; 16],
+        opens: [false; 16],
+        count: 0,
+    }
+}
+
+// A fresh router over a table that was set up.
+pub fn start_from(set: SetUp) -> Started
+    ensures { λ r. ⌜ r ≡ startFrom set ⌝ }
+{
+    let answer = set.answer;
+    let rows = set.rows;
+    let addresses = rows.addresses;
+    let opens = rows.opens;
+    let router = Router {
+        list: [0; 48],
+        len: 0,
+        addresses,
+        opens,
+        count: rows.count,
+    };
+    Started { answer, router }
+}
+
+// A fresh router over rows by value.
+pub fn start_with(rows: Rows) -> Started
+    ensures { λ r. ⌜ r ≡ startWith rows ⌝ }
+{
+    start_from(table::set_up_with(rows))
+}
