@@ -6,6 +6,7 @@ pub mod Kept
 pub mod Bound
 pub mod Words
 pub mod Steps
+pub mod Numbers
 pub mod After
 pub mod Sums
 pub mod Untouched

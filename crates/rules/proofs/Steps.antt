@@ -2,14 +2,14 @@
 -- one law here. A law that speaks of what a function answered takes it by name, with the equation that says what it is.
 use Prim.Native.Nat.{ℕ, _≤_, _<_}
 use mathlib.Core.Path.{_≡_, ap, _∙_}
-use mathlib.Core.Bool.{true, false}
+use mathlib.Core.Bool.{true, false, and-false}
 use mathlib.Core.List.{List}
 use mathlib.Core.Option.{Option, none, some}
 use lib.ListN.{length}
 use borrow.Author.Tests.{lt-ltb, le-ltb, lt-leb, le-leb, eq-eqb, ne-eqb}
 use Rattle.lists.specs.Lists.{checks, someOf, first}
 use Rattle.tapa.specs.Address.{categoryOf, handlerOf}
-use Rattle.tapa.specs.Codes.{invalidDestination, handlerError, handlerBusy, insufficientResources, mustBeOpened, unsupportedOperation, response, eventHandler}
+use Rattle.tapa.specs.Codes.{invalidDestination, handlerError, handlerBusy, insufficientResources, mustBeOpened, unsupportedOperation, response, openHandler, eventHandler}
 use Rattle.types.specs.Types.{known}
 use Rattle.tapa.specs.declared.Refusal.{Refusal}
 use Rattle.tapa.specs.declared.Refusal.the-variants.{NotInTable, ThreadAbove7, NoResponseCode, StrayResponse, WrongAsker, BufferTooSmall, EventCannotBeTaken, NothingToGiveUp, StandsInAWait}
@@ -78,6 +78,17 @@ event-taken rows e = rw e
 
 pub event-refused : (rows : List Row) → openedAt eventHandler rows ≡ false → judgeEvent rows ≡ Refused EventCannotBeTaken
 event-refused rows e = rw e
+
+-- ---- whom rule c turns back: all but Open Handler, where the asked handler is closed, and nobody where it is open
+module _ (rows : List Row) (h kind : ℕ) where
+  pub closed-to : openedAt h rows ≡ false → (kind ≡ openHandler → ⊥) → closedTo rows h kind ≡ true
+  closed-to e n = rw (e, ne-eqb kind openHandler n)
+
+  pub open-to : openedAt h rows ≡ true → closedTo rows h kind ≡ false
+  open-to e = rw e
+
+  pub opening-to : kind ≡ openHandler → closedTo rows h kind ≡ false
+  opening-to e = rw (eq-eqb kind openHandler e, and-false)
 
 -- ---- a command: 'The first that applies is turned back with its code'
 module _ (v : View) (h : Head) where

@@ -1,9 +1,10 @@
 -- What an outcome leaves as it was.
 use Prim.Native.Nat.{ℕ}
 use mathlib.Core.Path.{_≡_, refl}
-use mathlib.Core.List.{List}
+use mathlib.Core.List.{List, []}
 use mathlib.Core.Option.{Option, none, some}
 use lib.Dec.{eqb, ltb}
+use lib.ListN.{take}
 use Rattle.lists.specs.Lists.{someOf, first}
 use Rattle.lists.proofs.Tests.{split, checks-are}
 use Rattle.tapa.specs.declared.Refusal.{Refusal}
@@ -14,9 +15,9 @@ use Rattle.places.specs.declared.Place.{Place}
 use Rattle.places.specs.Places.{openOn, owesExactly}
 use Rattle.rules.specs.View.{View}
 use Rattle.rules.specs.declared.Outcome.{Outcome}
-use Rattle.rules.specs.declared.Outcome.the-variants.{Passed, Answered, Swallowed, Event, Reset, Refused}
+use Rattle.rules.specs.declared.Outcome.the-variants.{Passed, Answered, Swallowed, Event, Turned, Given, Reset, Refused}
 use Rattle.rules.specs.Judge.{answerable, late, reply, judgeResponse, rules, judgeCommand, yields, judgeGiveUp}
-use Rattle.rules.specs.Apply.{applied, rowsAfter, written}
+use Rattle.rules.specs.Apply.{applied, rowsAfter, written, sent}
 
 -- 'Other outcomes of a message leave the reply buffer untouched.'
 pub record Untouched (buffer : List ℕ) : Type 0 where
@@ -32,6 +33,30 @@ untouched buffer = record {
   answered = λ asked asker t k. refl;
   swallowed = λ asked t. refl;
   event = refl;
+  refused = λ r. refl;
+}
+
+-- 'When a message goes on, the bytes to send are a part of the incoming buffer or of the reply buffer': the message as it came, or the ten bytes
+-- that the router wrote. What is swallowed, refused or reset goes nowhere.
+pub record Sends (message buffer : List ℕ) : Type 0 where
+  pub passed : (asker asked kind t : ℕ) → sent (Passed asker asked kind t) message buffer ≡ message
+  pub answered : (asked asker t k : ℕ) → sent (Answered asked asker t k) message buffer ≡ message
+  pub event : sent Event message buffer ≡ message
+  pub turned : (asker asked t k : ℕ) → sent (Turned asker asked t k) message buffer ≡ take 10 buffer
+  pub given : (asker asked t : ℕ) → sent (Given asker asked t) message buffer ≡ take 10 buffer
+  pub swallowed : (asked t : ℕ) → sent (Swallowed asked t) message buffer ≡ []
+  pub reset : (h : ℕ) → sent (Reset h) message buffer ≡ []
+  pub refused : (r : Refusal) → sent (Refused r) message buffer ≡ []
+
+pub sends : (message buffer : List ℕ) → Sends message buffer
+sends message buffer = record {
+  passed = λ asker asked kind t. refl;
+  answered = λ asked asker t k. refl;
+  event = refl;
+  turned = λ asker asked t k. refl;
+  given = λ asker asked t. refl;
+  swallowed = λ asked t. refl;
+  reset = λ h. refl;
   refused = λ r. refl;
 }
 
