@@ -2,9 +2,9 @@
 use Prim.Native.Nat.{ℕ}
 use mathlib.Core.Path.{_≡_, refl, sym, ap, _∙_}
 use mathlib.Core.Bool.{true}
-use mathlib.Core.List.{List, [], _∷_}
+use mathlib.Core.List.{List, [], _∷_, _++_}
 use native.Mathlib.Omega.{arith}
-use lib.ListN.{length}
+use lib.ListN.{length, getD}
 use Rattle.tapa.specs.Address.{categoryOf, subAddressOf, handlerOf, multi}
 use Rattle.tapa.specs.Codes.{handlerError}
 use Rattle.types.specs.Types.{own, common}
@@ -25,7 +25,11 @@ use Rattle.router.specs.declared.Router.{Router}
 use Rattle.router.specs.Router.{viewOf, Lawful}
 use Rattle.start.specs.Start.{startOf}
 use Rattle.start.proofs.Starts.{lent-view, lent-law}
-use Rattle.demands.specs.Cheats.{Build, Meets, RefusesAll, OneOutcome, DoesNothing, ten, Echoes}
+use Rattle.fields.specs.Fields.{fileOf, rowOf, stepOf, fieldBytes}
+use Rattle.text.specs.Text.{ascii, decimalOf}
+use Rattle.lines.specs.Lines.{said}
+use Rattle.transcript.specs.Prescribed.{prescribed}
+use Rattle.demands.specs.Cheats.{Build, Meets, RefusesAll, OneOutcome, DoesNothing, ten, Echoes, Printing, Prints, MadeUp}
 use Rattle.demands.proofs.Used.{start-fresh}
 
 -- ---- the page's session, up to its first message, and what may come after it
@@ -118,3 +122,29 @@ module _ (b : Build) (m : Meets b) where
 
       differ : Turned 0x0100 0x0001 3 handlerError ≡ passes → ⊥
       differ e = let z : _≡_ {A = ℕ} 0 1 = cc in omega arith
+
+-- ---- made-up totals: two inputs of one length, each with one line before the totals; the one has a message that is passed, the other one that is
+-- refused
+
+abbrev input : (length : ℕ) → List ℕ
+input n =
+    fieldBytes 0x01 (0x01 ∷ 0x00 ∷ 0x01 ∷ [])
+    ++ (fieldBytes 0x01 (0x00 ∷ 0x01 ∷ 0x01 ∷ [])
+    ++ fieldBytes 0x02 (0x00 ∷ 0x01 ∷ 0x01 ∷ 0x00 ∷ 0x42 ∷ 0x03 ∷ 0x00 ∷ n ∷ 0xAA ∷ []))
+
+record Printed : Type 0 where
+  pub one-passed : prescribed (input 1) ≡ ascii "1 passed 0001\n" ∷ ascii "totals 1 0 0 1 0\n" ∷ []
+  pub one-refused : prescribed (input 0) ≡ ascii "1 refused 3\n" ∷ ascii "totals 0 0 0 0 0\n" ∷ []
+
+printed : Printed
+unfolding prescribed fileOf rowOf stepOf shaped judgeTable categoryOf subAddressOf handlerOf multi common own readOf partOf codeOf busy judgeCommand judgeKind judgeRead judgeMessage decimalOf said
+printed = record { one-passed = refl; one-refused = refl }
+
+pub made-up : (p : Printing) → Prints p → MadeUp p → ⊥
+made-up p m c =
+    let a = m (input 1) ∙ printed .one-passed in
+    let b = m (input 0) ∙ printed .one-refused in
+    let x : c .0 (length (input 1)) 2 ≡ ascii "totals 1 0 0 1 0\n" = rw a at (sym (c .1 (input 1))) in
+    let y : c .0 (length (input 0)) 2 ≡ ascii "totals 0 0 0 0 0\n" = rw b at (sym (c .1 (input 0))) in
+    let z : _≡_ {A = ℕ} 49 48 = ap (λ (l : List ℕ). getD l 7 0) (sym x ∙ y) in
+    absurd (omega arith)

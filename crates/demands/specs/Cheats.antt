@@ -11,6 +11,7 @@ use Rattle.rules.specs.Judge.{judgeMessage}
 use Rattle.router.specs.declared.Router.{Router}
 use Rattle.router.specs.declared.Routed.{Routed}
 use Rattle.router.specs.Router.{viewOf, Lawful, Routing}
+use Rattle.transcript.specs.Prescribed.{prescribed}
 use Rattle.demands.specs.Used.{Fresh}
 
 -- ---- builds of `route`
@@ -55,3 +56,22 @@ after b r (s ∷ more) = after b (b r s ten .routed .next) more
 abbrev pub Echoes : Build → Type 0
 Echoes b = (echo : Router → (first last : List ℕ) → Outcome)
     × ((r : Router) → Fresh r → (first : List ℕ) (between : List (List ℕ)) (last : List ℕ) → b (after b r (first ∷ between)) last ten .routed .outcome ≡ echo r first last)
+
+-- ---- builds of the session program
+
+-- a build: the lines that it prints of an input
+abbrev pub Printing : Type 0
+Printing = List ℕ → List (List ℕ)
+
+-- it meets the session's promise
+abbrev pub Prints : Printing → Type 0
+Prints p = (input : List ℕ) → p input ≡ prescribed input
+
+abbrev pub lastOf : List (List ℕ) → List ℕ
+lastOf [] = []
+lastOf (l ∷ []) = l
+lastOf (l ∷ m ∷ more) = lastOf (m ∷ more)
+
+-- one with 'made-up totals': its last line is made of how long the input is and of how many lines there are, not of what came of the calls
+abbrev pub MadeUp : Printing → Type 0
+MadeUp p = (made : (size lines : ℕ) → List ℕ) × ((input : List ℕ) → lastOf (p input) ≡ made (length input) (length (p input)))
