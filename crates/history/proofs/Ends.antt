@@ -34,25 +34,20 @@ use Rattle.history.proofs.Told.{stood, told, stands-as}
 
 -- ---- the wait that an outcome ends is the innermost one of its thread, and the owing is there
 
-pub wait-of : (v : View) (o : Outcome) → Allowed v o → endsWait o ≡ true → Innermost v (named o .asker) (named o .asked) (named o .thread)
-wait-of v (Passed asker asked kind t) a e = clash false e refl
-wait-of v (Answered asked asker t k) a e = a
-wait-of v (Swallowed asked t) a e = clash false e refl
-wait-of v Event a e = clash false e refl
-wait-of v (Turned asker asked t k) a e = clash false e refl
-wait-of v (Given asker asked t) a e = a
-wait-of v (Reset h) a e = clash false e refl
-wait-of v (Refused r) a e = clash false e refl
+abbrev There : View → Outcome → Type 0
+There v o =
+    (endsWait o ≡ true → Innermost v (named o .asker) (named o .asked) (named o .thread))
+    × (isSwallowed o ≡ true → someOf (owesExactly (named o .asked) (named o .thread)) (v .places) ≡ true)
 
-pub owing-of : (v : View) (o : Outcome) → Allowed v o → isSwallowed o ≡ true → someOf (owesExactly (named o .asked) (named o .thread)) (v .places) ≡ true
-owing-of v (Passed asker asked kind t) a e = clash false e refl
-owing-of v (Answered asked asker t k) a e = clash false e refl
-owing-of v (Swallowed asked t) a e = a .0
-owing-of v Event a e = clash false e refl
-owing-of v (Turned asker asked t k) a e = clash false e refl
-owing-of v (Given asker asked t) a e = clash false e refl
-owing-of v (Reset h) a e = clash false e refl
-owing-of v (Refused r) a e = clash false e refl
+pub there : (v : View) (o : Outcome) → Allowed v o → There v o
+there v (Passed asker asked kind t) a = (λ e. clash false e refl, λ e. clash false e refl)
+there v (Answered asked asker t k) a = (λ e. a, λ e. clash false e refl)
+there v (Swallowed asked t) a = (λ e. clash false e refl, λ e. a .0)
+there v Event a = (λ e. clash false e refl, λ e. clash false e refl)
+there v (Turned asker asked t k) a = (λ e. clash false e refl, λ e. clash false e refl)
+there v (Given asker asked t) a = (λ e. a, λ e. clash false e refl)
+there v (Reset h) a = (λ e. clash false e refl, λ e. clash false e refl)
+there v (Refused r) a = (λ e. clash false e refl, λ e. clash false e refl)
 
 -- ---- commands that a test picks are as many as the places that it picks
 
@@ -79,10 +74,10 @@ module _ (h : List Entry) (v : View) (c : Conduct v) (k : stood h (sent h) ≡ v
   counted o a e =
       let n = named o in
       split (endsWait o)
-      (λ w. ap (λ (q : Place → Bool). count q (v .places)) (λ i p. ends-wait o p w i) ∙ found-one _ _ _ (wait-of v o a w))
+      (λ w. ap (λ (q : Place → Bool). count q (v .places)) (λ i p. ends-wait o p w i) ∙ found-one _ _ _ (there v o a .0 w))
       (λ w. let s : isSwallowed o ≡ true = rw w at e in
       let once : count (owesExactly (n .asked) (n .thread)) (v .places) ≡ 1 =
-      omega (arith, exact-once v c (n .asked) (n .thread), count-some (owesExactly (n .asked) (n .thread)) (v .places) (owing-of v o a s)) in
+      omega (arith, exact-once v c (n .asked) (n .thread), count-some (owesExactly (n .asked) (n .thread)) (v .places) (there v o a .1 s)) in
       ap (λ (q : Place → Bool). count q (v .places)) (λ i p. ends-owing o p s i) ∙ once)
 
   pub one-ended : (o : Outcome) → Allowed v o → endsOne o ≡ true → (d : Sent) × (ended h o ≡ d ∷ [])
@@ -119,7 +114,7 @@ module _ (h : List Entry) (v : View) (c : Conduct v) (k : stood h (sent h) ≡ v
       let y = m′ .0 in
       let s = as-sent (d .command) y (stands-as h d y (m′ .1)) in record {
         its-reply = λ w.
-            let n = wait-of v o a w in
+            let n = there v o a .0 w in
             let k : y ≡ n .it = only (asksExactly _ _) (v .places) (n .it) y (omega (arith, exact-once v c (named o .asked) (named o .thread))) (n .found) (standing-in y (m′ .1)) (rw (ends-wait o y w) at (m′ .2)) in
             let r = g .reply (rw w) in record {
               head = r .head;

@@ -8,9 +8,9 @@ use mathlib.Core.List.{List, [], _∷_}
 use mathlib.Core.Option.{Option, none, some}
 use native.Mathlib.Omega.{arith}
 use lib.ListN.{length}
-use borrow.Author.Tests.{not-true, eq-eqb}
+use borrow.Author.Tests.{not-true}
 use Rattle.lists.specs.Lists.{one, In}
-use Rattle.lists.proofs.Tests.{split, clash, and-yes}
+use Rattle.lists.proofs.Tests.{split, clash, and-yes, eqb-same}
 use Rattle.lists.proofs.Members.{in-either, in-one, in-all}
 use Rattle.places.specs.declared.Place.{Place}
 use Rattle.places.specs.Places.{isOpen, isOwed, asks, owing}
@@ -18,7 +18,7 @@ use Rattle.rules.specs.declared.Outcome.{Outcome}
 use Rattle.rules.specs.declared.Outcome.the-variants.{Passed, Answered, Swallowed, Event, Turned, Given, Reset, Refused}
 use Rattle.rules.specs.Apply.{place}
 use Rattle.places.proofs.Two.{asks-open, owes-owed}
-use Rattle.history.specs.History.{Entry, Sent, starts, sent, lives, livesOn, standing, meets, ends, isPassed, isAnswered, isGiven, isSwallowed, isReset, named, timesEnded, Fate}
+use Rattle.history.specs.History.{Entry, Sent, starts, sent, lives, livesOn, standing, meets, ends, isPassed, isAnswered, isGiven, isSwallowed, isReset, Named, named, timesEnded, Fate}
 use Rattle.history.proofs.Told.{sent-before, older, unsent}
 
 -- ---- one outcome
@@ -79,26 +79,22 @@ none-yet q (e ∷ h) c k = rw (unsent h c (omega arith)) (omega (arith, and-no (
 
 -- the entry of the command itself
 newest : (e : Entry) (h : List Entry) (c : Sent) → In c (starts (length h) (e .outcome)) → Fate (e ∷ h) c
-newest e h c i = split (isPassed (e .outcome)) (λ p. go (in-one c _ (rw p at i))) (λ p. absurd (rw p at i))
+newest e h c i = split (isPassed (e .outcome)) (λ p. rw (← in-one c new (rw p at i)) own) (λ p. absurd (rw p at i))
   where
-    new : (q : Outcome → Bool) → c .no ≡ length h → timesEnded q (e ∷ h) c ≡ 0
-    new q n = none-yet q (e ∷ h) c (omega arith)
+    n : Named
+    n = named (e .outcome)
 
-    go : record {
-      no = length h;
-      command = place (named (e .outcome) .asker) (named (e .outcome) .asked) (named (e .outcome) .kind) (named (e .outcome) .thread);
-    } ≡ c → Fate (e ∷ h) c
-    go k =
-        let n : c .no ≡ length h = ap (λ (x : Sent). x .no) (sym k) in
-        let opened : isOpen (c .command) ≡ true = ap (λ (x : Sent). isOpen (x .command)) (sym k) in
-        let shut : isOwed (c .command) ≡ false = ap (λ (x : Sent). isOwed (x .command)) (sym k) in
-        let here : standing (e ∷ h) c ≡ some (c .command) = rw (eq-eqb (c .no) (length h) n) in
-        let is-open : one (meets isOpen (standing (e ∷ h) c)) ≡ 1 = ap (λ (x : Option Place). one (meets isOpen x)) here ∙ ap one opened in
-        let not-owed : one (meets isOwed (standing (e ∷ h) c)) ≡ 0 = ap (λ (x : Option Place). one (meets isOwed x)) here ∙ ap one shut in
-        record {
-          open-or-ended = omega (arith, is-open, new isAnswered n, new isGiven n);
-          owed-or-ended = omega (arith, not-owed, new isSwallowed n, new isReset n, new isGiven n);
-        }
+    new : Sent
+    new = record { no = length h; command = place (n .asker) (n .asked) (n .kind) (n .thread) }
+
+    none : (q : Outcome → Bool) → timesEnded q (e ∷ h) new ≡ 0
+    none q = none-yet q (e ∷ h) new (omega arith)
+
+    own : Fate (e ∷ h) new
+    own = record {
+      open-or-ended = rw (eqb-same (length h)) (omega (arith, none isAnswered, none isGiven));
+      owed-or-ended = rw (eqb-same (length h)) (omega (arith, none isSwallowed, none isReset, none isGiven));
+    }
 
 -- an entry after it
 goes-on : (e : Entry) (h : List Entry) (c : Sent) → c .no < length h → Fate h c → Fate (e ∷ h) c

@@ -26,7 +26,7 @@ use Rattle.history.specs.History.{Step, Entry, entry, viewAfter, history
 use Rattle.history.specs.Marks.{addressed, isReply, fits, replaces, replacedSince, used, AllThree, Marked, Honest, Bears}
 use Rattle.history.proofs.Law.{conduct-after}
 use Rattle.history.proofs.Told.{sent-before, older, stood, told, stands-as}
-use Rattle.history.proofs.Ends.{wait-of, owing-of, found-one, one-ended, stood-in}
+use Rattle.history.proofs.Ends.{there, found-one, one-ended, stood-in}
 use Rattle.history.proofs.Words.{ends-wait, ends-owing, ends-reset}
 use Rattle.history.proofs.Fates.{was}
 
@@ -92,7 +92,7 @@ module _ (mark : ℕ → ℕ) where
           arith,
           exact-once v l (n .asked) (n .thread),
           counts (owesExactly (n .asked) (n .thread)) c y i e (owed-exactly (n .asked) (n .thread) y p b),
-          found-one h v l k _ _ _ (wait-of v o a w),
+          found-one h v l k _ _ _ (there v o a .0 w),
         )))
         (λ b. ended-is o a r c y i e (rw (ends-wait o y w) (open-exactly (n .asked) (n .thread) y p b))))
         (λ w. let s : isSwallowed o ≡ true = rw w at r in
@@ -102,7 +102,7 @@ module _ (mark : ℕ → ℕ) where
           arith,
           exact-once v l (n .asked) (n .thread),
           counts (asksExactly (n .asked) (n .thread)) c y i e (open-exactly (n .asked) (n .thread) y p b),
-          count-some (owesExactly (n .asked) (n .thread)) (v .places) (owing-of v o a s),
+          count-some (owesExactly (n .asked) (n .thread)) (v .places) (there v o a .1 s),
         ))))
 
     bears : (o : Outcome) → Allowed v o → Every h → (isReply o ≡ true → Marked mark (AllThree mark) h o) → Bears mark h o

@@ -2,18 +2,18 @@
 use Prim.Native.Nat.{ℕ}
 use mathlib.Core.Path.{_≡_, refl, sym, ap, _∙_}
 use mathlib.Core.List.{List, [], _∷_}
-use Rattle.lists.specs.Lists.{All}
 use Rattle.table.specs.declared.Row.{Row}
 use Rattle.table.specs.Table.{Proper}
 use Rattle.rules.specs.View.{View}
 use Rattle.rules.specs.Judge.{judge}
+use Rattle.rules.specs.Says.{Says}
 use Rattle.rules.proofs.Says.{says}
 use Rattle.rules.proofs.Words.{worded}
-use Rattle.history.specs.History.{Step, Entry, viewAfter, history, Went}
+use Rattle.history.specs.History.{Step, Entry, entry, viewAfter, history, Each, Went}
 use Rattle.history.specs.Marks.{Honest}
-use Rattle.history.specs.Promise.{Ran, begun, going, EachEndsOne, EachConcerns, EachBears, Promise, Bounded}
+use Rattle.history.specs.Promise.{Ran, begun, going, EndsOne, ConcernsIt, EachBears, Promise, Bounded}
 use Rattle.history.proofs.Went.{went}
-use Rattle.history.proofs.Law.{conduct-after, says-after}
+use Rattle.history.proofs.Law.{conduct-after}
 use Rattle.history.proofs.Bound.{bounded-after}
 use Rattle.history.proofs.Told.{waits-told, owings-told}
 use Rattle.history.proofs.Ends.{ends-exactly-one, ends-its-own}
@@ -21,17 +21,12 @@ use Rattle.history.proofs.Fates.{fate}
 use Rattle.history.proofs.Totals.{balanced}
 use Rattle.history.proofs.Marks.{marks}
 
-each-ends-one : (rows : List Row) (steps : List Step) → EachEndsOne (history rows steps)
-each-ends-one rows [] = tt
-each-ends-one rows (s ∷ steps) = (ends-exactly-one rows steps s, each-ends-one rows steps)
-
-each-concerns : (rows : List Row) (steps : List Step) → EachConcerns (history rows steps)
-each-concerns rows [] = tt
-each-concerns rows (s ∷ steps) = (ends-its-own rows steps s, each-concerns rows steps)
-
-each-went : (rows : List Row) (steps : List Step) → All Went (history rows steps)
-each-went rows [] = tt
-each-went rows (s ∷ steps) = let v = viewAfter rows steps in (went s (judge v (s .room) (s .call)) (says v (s .room) (s .call)), each-went rows steps)
+-- what holds of the next entry, after any steps, holds of each
+each : (P : List Entry → Entry → Type 0) (rows : List Row)
+    → ((steps : List Step) (s : Step) → P (history rows steps) (entry s (judge (viewAfter rows steps) (s .room) (s .call))))
+    → (steps : List Step) → Each P (history rows steps)
+each P rows f [] = tt
+each P rows f (s ∷ steps) = (f steps s, each P rows f steps)
 
 each-bears : (mark : ℕ → ℕ) (rows : List Row) (steps : List Step) → Honest mark (history rows steps) → EachBears mark (history rows steps)
 each-bears mark rows [] m = tt
@@ -45,10 +40,10 @@ promise rows steps = record {
   opens = waits-told rows steps;
   owes = owings-told rows steps;
   fates = fate (history rows steps);
-  ends-one = each-ends-one rows steps;
-  to-asker = each-concerns rows steps;
-  went = each-went rows steps;
-  bytes = says-after rows steps;
+  ends-one = each EndsOne rows (ends-exactly-one rows) steps;
+  to-asker = each ConcernsIt rows (ends-its-own rows) steps;
+  went = each (λ h e. Went e) rows (λ before s. went s _ (says (viewAfter rows before) (s .room) (s .call))) steps;
+  bytes = each (λ h e. Says (e .step .call) (e .outcome)) rows (λ before s. says (viewAfter rows before) (s .room) (s .call)) steps;
   balance = balanced rows steps;
 }
 

@@ -60,6 +60,11 @@ abbrev pub history : List Row → List Step → List Entry
 history rows [] = []
 history rows (s ∷ steps) = entry s (judge (viewAfter rows steps) (s .room) (s .call)) ∷ history rows steps
 
+-- what holds of every entry of a history, with the older ones before it
+abbrev pub Each : (List Entry → Entry → Type 0) → List Entry → Type 0
+Each P [] = Unit {0}
+Each P (e ∷ h) = P h e × Each P h
+
 -- ---- the outcomes by their words
 
 abbrev pub isPassed : Outcome → Bool

@@ -9,7 +9,7 @@ use Rattle.lists.specs.Lists.{In}
 use Rattle.places.specs.declared.Place.{Place}
 use Rattle.places.specs.Places.{onThread, asks}
 use Rattle.rules.specs.declared.Outcome.{Outcome}
-use Rattle.history.specs.History.{Entry, isAnswered, isSwallowed, isReset, named, Sent, sent, ended}
+use Rattle.history.specs.History.{Entry, Each, isAnswered, isSwallowed, isReset, named, Sent, sent, ended}
 
 -- exactly this address is asked on this thread, by a command that may be open, owed or done with
 abbrev pub addressed : ℕ → ℕ → Place → Bool
@@ -65,8 +65,7 @@ module _ (mark : ℕ → ℕ) where
 
   -- every response that was not refused bears such a mark
   abbrev pub HonestBy : (P : List Entry → Outcome → Sent → Type 0) → List Entry → Type 0
-  HonestBy P [] = Unit {0}
-  HonestBy P (e ∷ h) = (isReply (e .outcome) ≡ true → Marked P h (e .outcome)) × HonestBy P h
+  HonestBy P h = Each (λ older e. isReply (e .outcome) ≡ true → Marked P older (e .outcome)) h
 
   abbrev pub Honest : List Entry → Type 0
   Honest h = HonestBy AllThree h

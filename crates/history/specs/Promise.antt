@@ -4,7 +4,7 @@ use mathlib.Core.Path.{_≡_}
 use mathlib.Core.Bool.{true}
 use mathlib.Core.List.{List, [], _∷_}
 use lib.ListN.{length}
-use Rattle.lists.specs.Lists.{All, In}
+use Rattle.lists.specs.Lists.{In}
 use Rattle.table.specs.declared.Row.{Row}
 use Rattle.table.specs.Table.{Proper}
 use Rattle.places.specs.Places.{waits, owings}
@@ -14,7 +14,7 @@ use Rattle.rules.specs.Judge.{judge}
 use Rattle.rules.specs.Apply.{applied}
 use Rattle.rules.specs.Says.{Says}
 use Rattle.rules.specs.Words.{Worded, singles, multis, most}
-use Rattle.history.specs.History.{Step, Entry, goesOut, Sent, sent, openIn, owedIn, commands, debts, ended, endsOne, isPassed, isAnswered, isGiven, Fate, Went, Concerns, total}
+use Rattle.history.specs.History.{Step, Entry, goesOut, Each, Sent, sent, openIn, owedIn, commands, debts, ended, endsOne, isPassed, isAnswered, isGiven, Fate, Went, Concerns, total}
 use Rattle.history.specs.Marks.{Bears}
 
 -- calls that were made one after the other, from a fresh router over these rows, each with its outcome, with what went out, and with the next state's view: what
@@ -26,19 +26,16 @@ pub data Ran (rows : List Row) : List Entry → View → Type 0 where
       → Ran rows (record { step = s; outcome = o; out = b } ∷ h) w
 
 -- 'Each answered, given or swallowed outcome is shown to end exactly one.'
-abbrev pub EachEndsOne : List Entry → Type 0
-EachEndsOne [] = Unit {0}
-EachEndsOne (e ∷ h) = (endsOne (e .outcome) ≡ true → (d : Sent) × (ended h (e .outcome) ≡ d ∷ [])) × EachEndsOne h
+abbrev pub EndsOne : List Entry → Entry → Type 0
+EndsOne h e = endsOne (e .outcome) ≡ true → (d : Sent) × (ended h (e .outcome) ≡ d ∷ [])
 
 -- and it concerns that one: a response goes to its asker, from its asked address, on its thread
-abbrev pub EachConcerns : List Entry → Type 0
-EachConcerns [] = Unit {0}
-EachConcerns (e ∷ h) = ((d : Sent) → In d (ended h (e .outcome)) → Concerns e d) × EachConcerns h
+abbrev pub ConcernsIt : List Entry → Entry → Type 0
+ConcernsIt h e = (d : Sent) → In d (ended h (e .outcome)) → Concerns e d
 
 -- 'an answered or swallowed response bears the mark of the wait or owing it ends'
 abbrev pub EachBears : (mark : ℕ → ℕ) → List Entry → Type 0
-EachBears mark [] = Unit {0}
-EachBears mark (e ∷ h) = Bears mark h (e .outcome) × EachBears mark h
+EachBears mark h = Each (λ older e. Bears mark older (e .outcome)) h
 
 pub record Promise (h : List Entry) (v : View) : Type 0 where
   -- the law, in the page's words
@@ -48,12 +45,12 @@ pub record Promise (h : List Entry) (v : View) : Type 0 where
   pub owes : owings (v .places) ≡ debts (owedIn h)
   -- what became of every passed command
   pub fates : (c : Sent) → In c (sent h) → Fate h c
-  pub ends-one : EachEndsOne h
-  pub to-asker : EachConcerns h
+  pub ends-one : Each EndsOne h
+  pub to-asker : Each ConcernsIt h
   -- what went out, a turned command's response too
-  pub went : All Went h
+  pub went : Each (λ older e. Went e) h
   -- the outcomes carry what the calls' bytes say
-  pub bytes : All (λ (e : Entry). Says (e .step .call) (e .outcome)) h
+  pub bytes : Each (λ older e. Says (e .step .call) (e .outcome)) h
   -- accepted = answered + given up + waiting
   pub balance : total isPassed h ≡ total isAnswered h + total isGiven h + length (waits (v .places))
 
