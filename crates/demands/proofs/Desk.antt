@@ -1,5 +1,5 @@
 -- The C table, proved: each sum from its own room.
-use mathlib.Core.Path.{_≡_, refl, ap, _∙_}
+use mathlib.Core.Path.{ap}
 use Rattle.message.specs.Message.{messageOf, responseOf}
 use Rattle.message.proofs.Sums as message
 use Rattle.table.specs.Said.{saidChecked}

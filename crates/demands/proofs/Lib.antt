@@ -1,3 +1,5 @@
+pub mod One
 pub mod Desk
 pub mod Used
 pub mod Cheats
+pub mod Demands

@@ -8,7 +8,7 @@ use Rattle.lists.specs.Lists.{onto}
 use Rattle.tapa.specs.Address.{handlerOf}
 use Rattle.tapa.specs.Codes.{noEvents, getEvent, eventHandler}
 use Rattle.tapa.specs.Numbers.{wordAt}
-use Rattle.tapa.specs.Said.{refused, says, read, accepted, turned, reply}
+use Rattle.tapa.specs.Said.{refused, says, accepted, turned, reply}
 use Rattle.message.specs.declared.Head.{Head}
 use Rattle.message.specs.declared.Reading.the-variants.{Message}
 use Rattle.message.specs.Message.{headOf, readOf, responseOf}
@@ -24,7 +24,6 @@ use Rattle.rules.specs.Said.{saidOutcome}
 use Rattle.cutter.specs.Cutting.{commandOf}
 use Rattle.cutter.specs.Handing.{commandsOf}
 use Rattle.events.specs.Events.{handled}
-use Rattle.events.specs.Said.{saidAnswer}
 
 -- a row of a table
 abbrev pub row : ℕ → Bool → Row

@@ -1,12 +1,11 @@
 -- Each answered, given or swallowed outcome ends exactly one command, and a reply goes to the one that asked.
-use Prim.Native.Nat.{ℕ, _+_, _≤_}
+use Prim.Native.Nat.{ℕ, _+_}
 use mathlib.Core.Path.{_≡_, refl, sym, ap, _∙_}
 use mathlib.Core.Logic.{_⊎_, inl, inr}
-use mathlib.Core.Bool.{Bool, true, false, _&&_}
+use mathlib.Core.Bool.{Bool, true, false}
 use mathlib.Core.List.{List, [], _∷_}
 use mathlib.Core.Option.{Option, none, some}
 use native.Mathlib.Omega.{arith}
-use lib.Dec.{eqb}
 use lib.ListN.{length}
 use borrow.Author.Tests.{eqb-true}
 use Rattle.lists.specs.Lists.{one, count, someOf, In}
@@ -17,7 +16,7 @@ use Rattle.lists.proofs.Members.{only, put, alone, in-kept}
 use Rattle.tapa.specs.Address.{handlerOf}
 use Rattle.table.specs.declared.Row.{Row}
 use Rattle.places.specs.declared.Place.{Place}
-use Rattle.places.specs.Places.{isOpen, isOwed, onThread, asksExactly, owesExactly, asks, owedBy, owing}
+use Rattle.places.specs.Places.{isOwed, asksExactly, owesExactly, asks, owing}
 use Rattle.rules.specs.View.{View}
 use Rattle.rules.specs.declared.Outcome.{Outcome}
 use Rattle.rules.specs.declared.Outcome.the-variants.{Passed, Answered, Swallowed, Event, Turned, Given, Reset, Refused}
@@ -26,7 +25,7 @@ use Rattle.rules.specs.Conduct.{Conduct}
 use Rattle.rules.proofs.Allowed.{Allowed, Innermost, allowed}
 use Rattle.rules.proofs.Says.{says}
 use Rattle.rules.proofs.After.{exact-once}
-use Rattle.history.specs.History.{Step, Entry, entry, viewAfter, history, Sent, sent, standing, meets, ends, ended, endsWait, endsOne, isSwallowed, isReset, named, Went, Concerns}
+use Rattle.history.specs.History.{Step, Entry, entry, viewAfter, history, Sent, sent, standing, meets, ends, ended, endsWait, endsOne, isSwallowed, named, Went, Concerns}
 use Rattle.history.proofs.Went.{went}
 use Rattle.history.proofs.Words.{ends-wait, ends-owing, ends-reset, aimed}
 use Rattle.history.proofs.Law.{conduct-after}

@@ -1,7 +1,7 @@
 -- What became of each passed command: it is open still, or was answered once, or given up once; and one given up is owed still, or was
 -- swallowed once, or ended by one replaced call.
 use Prim.Native.Nat.{_+_, _≤_, _<_}
-use mathlib.Core.Path.{_≡_, refl, sym, ap, _∙_}
+use mathlib.Core.Path.{_≡_, refl, ap, _∙_}
 use mathlib.Core.Logic.{inl, inr}
 use mathlib.Core.Bool.{Bool, true, false, _&&_, cond}
 use mathlib.Core.List.{List, [], _∷_}

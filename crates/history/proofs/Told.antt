@@ -48,7 +48,7 @@ sent-before (e ∷ h) =
 abbrev Opened : Sent → Type 0
 Opened c = isOpen (c .command) ≡ true
 
-pub sent-open : (h : List Entry) → All Opened (sent h)
+sent-open : (h : List Entry) → All Opened (sent h)
 sent-open [] = tt
 sent-open (e ∷ h) = starts-then Opened (length h) (e .outcome) (sent h) (λ a b k t. refl) (sent-open h)
 
@@ -136,10 +136,10 @@ stands-as (e ∷ h) c y k =
     go none ih m = differ (cc)
     go (some p) ih m = on p (lived (ends (e .outcome) p) (isGiven (e .outcome)) p y m) (ih p refl)
 
-pub open-as : (h : List Entry) (c : Sent) (y : Place) → standing h c ≡ some y → isOpen y ≡ true → y ≡ c .command
+open-as : (h : List Entry) (c : Sent) (y : Place) → standing h c ≡ some y → isOpen y ≡ true → y ≡ c .command
 open-as h c y e o = elim (stands-as h c y e) [ inl k ↦ k | inr k ↦ clash (isOpen y) o (ap isOpen k) ]
 
-pub owed-as : (h : List Entry) (c : Sent) (y : Place) → standing h c ≡ some y → Opened c → isOwed y ≡ true → y ≡ owing (c .command)
+owed-as : (h : List Entry) (c : Sent) (y : Place) → standing h c ≡ some y → Opened c → isOwed y ≡ true → y ≡ owing (c .command)
 owed-as h c y e s o = elim (stands-as h c y e) [ inl k ↦ clash (isOpen y) (ap isOpen k ∙ s) (rw o) | inr k ↦ k ]
 
 -- ---- the waits are the open commands, the owings are the owed ones, in order
@@ -157,14 +157,10 @@ module _ (h : List Entry) (q : Place → Bool) (f : Sent → Place) where
       go none e ih = ih
       go (some y) e ih = split (q y) (λ b. rw (b, ih, a .0 y e b)) (λ b. rw b ih)
 
-all-of : (P : Sent → Type 0) → ((c : Sent) → P c) → (cs : List Sent) → All P cs
-all-of P f [] = tt
-all-of P f (c ∷ cs) = (f c, all-of P f cs)
-
 pub waits-told : (rows : List Row) (steps : List Step) → waits (viewAfter rows steps .places) ≡ commands (openIn (history rows steps))
 waits-told rows steps =
     let h = history rows steps in
-    ap waits (sym (told rows steps)) ∙ picked h isOpen (λ (c : Sent). c .command) (sent h) (all-of _ (λ c y. open-as h c y) (sent h))
+    ap waits (sym (told rows steps)) ∙ picked h isOpen (λ (c : Sent). c .command) (sent h) (All-map Opened _ (λ c s. open-as h c) (sent h) (sent-open h))
 
 pub owings-told : (rows : List Row) (steps : List Step) → owings (viewAfter rows steps .places) ≡ debts (owedIn (history rows steps))
 owings-told rows steps =

@@ -1,0 +1,27 @@
+-- The three demands, proved.
+use Rattle.history.proofs.Needed.{needed}
+use Rattle.demands.specs.Demands.{Demands}
+use Rattle.demands.proofs.One.{one-result}
+use Rattle.demands.proofs.Desk.{desk}
+use Rattle.demands.proofs.Cheats.{refuses-all, one-outcome, does-nothing, echoes, made-up}
+use Rattle.demands.proofs.Used.{start-with-fresh, start-fresh, used-lawful, promise-used, bounded-used, marks-used}
+
+pub demands : Demands
+demands = record {
+  one-result = one-result;
+  sums = desk;
+  refuses-all = refuses-all;
+  one-outcome = one-outcome;
+  does-nothing = does-nothing;
+  echoes = echoes;
+  made-up = made-up;
+  start-with = start-with-fresh;
+  start = start-fresh;
+  kept = λ first f h r u. record {
+    law = used-lawful first f u;
+    promise = promise-used first f u;
+    bound = bounded-used first f u;
+    marks = λ mark m. marks-used first f mark u m;
+  };
+  marks-needed = needed;
+}

@@ -1,0 +1,41 @@
+-- Demand 1, from the rooms: each contract leaves one result.
+use mathlib.Core.Path.{_≡_, refl}
+use Rattle.lists.proofs.Tests.{one-value}
+use Rattle.message.proofs.Once as message
+use Rattle.table.proofs.Once as table
+use Rattle.places.proofs.Once as places
+use Rattle.router.proofs.Once as router
+use Rattle.queue.proofs.Once as queue
+use Rattle.events.proofs.Once as events
+use Rattle.cutter.proofs.Once as cutter
+use Rattle.joiner.proofs.Once as joiner
+use Rattle.transcript.proofs.Once as transcript
+use Rattle.demands.specs.One.{One, OneResult}
+
+-- an equation leaves one value
+pub equations : {A : Type 0} (v : A) → One (λ (x : A). x ≡ v)
+equations v x y = one-value x y v
+
+pub one-result : OneResult
+one-result = record {
+  write = λ d s k t part before w v a b. message.one-write d s k t part before a b w v;
+  data-part = message.one-data-part;
+  set-open = λ a before n h to m k. table.one-set-open a before m k n h to;
+  list = λ ps n k l m. places.one-list ps l m n k;
+  route = λ r message before x y a b. router.one-route r x y message before a b;
+  give-up = λ r thread before x y a b. router.one-give-up r x y thread before a b;
+  replaced = λ r address x y. router.one-replaced r x y address;
+  part-to-send = router.one-part-to-send;
+  queue = λ es p q. queue.one-queue p q es;
+  handle = λ w h k a b. events.one-handle w a b h k;
+  part-to-cut = λ message x y p q. let s = cutter.one-part-to-cut message x y p q in (s .bytes, s .place);
+  cut-next = λ part thread at before h k a b. cutter.one-cut-next part thread at before a b h k;
+  next = λ c before s t a b. cutter.one-next c before a b s t;
+  first-command = λ message before f g a b. cutter.one-first-command message before a b f g;
+  begin = λ message b c p q. let s = cutter.one-begin message b c p q in (s .0, (s .1 .0 .bytes, s .1 .0 .place), s .1 .1 .0, s .1 .1 .1);
+  join = λ j piece before r t a b. joiner.one-join j piece before a b r t;
+  joined-part = joiner.one-joined-part;
+  get-next = λ thread before w v a b. joiner.one-get-next thread before a b w v;
+  session-begin = transcript.one-begin;
+  session-next = λ input w before t u a b. transcript.one-next input w before a b t u;
+}

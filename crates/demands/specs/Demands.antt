@@ -1,0 +1,41 @@
+-- The three demands in one record: what an outsider opens first. proofs/Demands.antt has it as one theorem.
+use Prim.Native.Nat.{ℕ}
+use mathlib.Core.List.{List}
+use Rattle.table.specs.declared.Row.{Row}
+use Rattle.table.specs.declared.Rows.{Rows}
+use Rattle.table.specs.Table.{Held}
+use Rattle.router.specs.declared.Router.{Router}
+use Rattle.router.specs.Router.{viewOf, Lawful}
+use Rattle.router.specs.Start.{startWith, startOf}
+use Rattle.history.specs.History.{Entry}
+use Rattle.history.specs.Marks.{Honest}
+use Rattle.history.specs.Promise.{EachBears, Promise, Bounded}
+use Rattle.history.specs.Needed.{Needed}
+use Rattle.demands.specs.One.{OneResult}
+use Rattle.demands.specs.Desk.{Desk}
+use Rattle.demands.specs.Cheats.{Build, Meets, RefusesAll, OneOutcome, DoesNothing, Echoes, Printing, Prints, MadeUp}
+use Rattle.demands.specs.Used.{Fresh, Used}
+
+-- demand 3 of one run of the code: 'the law shown of every state', what every history shows, its bound, and the marks
+pub record Kept (first : Router) (h : List Entry) (r : Router) : Type 0 where
+  pub law : Lawful r
+  pub promise : Promise h (viewOf r)
+  pub bound : Bounded (viewOf first .rows) h (viewOf r)
+  pub marks : (mark : ℕ → ℕ) → Honest mark h → EachBears mark h
+
+pub record Demands : Type 0 where
+  -- 1. Every message, table and call has one outcome. (Equations leave one value: `equations` of proofs/One.antt.)
+  pub one-result : OneResult
+  -- 2. The sums at the desk; and no build meets the contracts that 'refuses everything, gives one outcome only .. or does nothing', 'routes the
+  -- first message and then echoes', or has 'made-up totals'
+  pub sums : Desk
+  pub refuses-all : (b : Build) → Meets b → RefusesAll b → ⊥
+  pub one-outcome : (b : Build) → Meets b → OneOutcome b → ⊥
+  pub does-nothing : (b : Build) → Meets b → DoesNothing b → ⊥
+  pub echoes : (b : Build) → Meets b → Echoes b → ⊥
+  pub made-up : (p : Printing) → Prints p → MadeUp p → ⊥
+  -- 3. Every public start hands back a fresh router, and every run of the code from a fresh router keeps the promise; each premise on marks is needed
+  pub start-with : (rows : Rows) → Held rows → Fresh (startWith rows .router)
+  pub start : (rows : List Row) → Fresh (startOf rows .router)
+  pub kept : (first : Router) → Fresh first → (h : List Entry) (r : Router) → Used first h r → Kept first h r
+  pub marks-needed : Needed

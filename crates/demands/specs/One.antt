@@ -1,0 +1,77 @@
+-- Demand 1: 'Every public function has a contract that leaves, for every input, refusals too, one result and one content of lent memory possible.'
+--
+-- A contract is an equation between the answer (or a lent buffer at the end) and a definition, or a relation that has a name. Of equations it
+-- is shown once for all (proofs/One.antt, `equations`). Of the relations it is this record: a field a function, over the very name that the
+-- function ensures. docs/PROMISES.md has every public function with its theorem.
+use Prim.Native.Nat.{ℕ}
+use mathlib.Core.Path.{_≡_}
+use mathlib.Core.List.{List}
+use mathlib.Core.Bool.{Bool}
+use lib.ListN.{length}
+use denote.Ref.{RefT, now}
+use Rattle.message.specs.Message.{Wrote, DataPart}
+use Rattle.table.specs.Table.{Opened}
+use Rattle.places.specs.declared.Place.{Place}
+use Rattle.places.specs.Places.{Becomes}
+use Rattle.rules.specs.declared.Outcome.{Outcome}
+use Rattle.rules.specs.Judge.{judgeMessage, judgeGiveUp, judgeReplaced}
+use Rattle.router.specs.declared.Router.{Router}
+use Rattle.router.specs.Router.{viewOf, Routing, Replacing}
+use Rattle.router.specs.Sending.{Sending}
+use Rattle.queue.specs.declared.Event.{Event}
+use Rattle.queue.specs.Places.{Holds}
+use Rattle.events.specs.Events.{Result, Handling}
+use Rattle.cutter.specs.declared.Cutter.{Cutter}
+use Rattle.cutter.specs.declared.Begun.{Begun}
+use Rattle.cutter.specs.Cutting.{PartToCut, HandsOut, Steps, Begins, Firsts}
+use Rattle.joiner.specs.declared.Joiner.{Joiner}
+use Rattle.joiner.specs.declared.Answer.{Answer}
+use Rattle.joiner.specs.Joining.{Joins, PartFor, Asks}
+use Rattle.transcript.specs.declared.Session.{Session}
+use Rattle.transcript.specs.Left as transcript
+
+-- one answer is left
+abbrev pub One : {A : Type 0} → (A → Type 0) → Type 0
+One {A} P = (x y : A) → P x → P y → x ≡ y
+
+-- one answer, and one content of the lent memory at the end
+abbrev pub OneWith : {A B : Type 0} → (A → B → Type 0) → Type 0
+OneWith {A} {B} P = (x y : A) (a b : B) → P x a → P y b → (x ≡ y) × (a ≡ b)
+
+-- one part of a lent slice: its bytes, and where it stands
+abbrev pub SamePart : (x y : RefT (List ℕ)) → Type 0
+SamePart x y = (now x ≡ now y) × (x .ptr ≡ y .ptr)
+
+abbrev pub OnePart : (RefT (List ℕ) → Type 0) → Type 0
+OnePart P = (x y : RefT (List ℕ)) → P x → P y → SamePart x y
+
+pub record OneResult : Type 0 where
+  -- message
+  pub write : (destination source kind thread : ℕ) (part before : List ℕ) → OneWith (λ w after. Wrote destination source kind thread part before after w)
+  pub data-part : (message : RefT (List ℕ)) → OnePart (DataPart message)
+  -- table: the marks
+  pub set-open : (addresses : List ℕ) (before : List Bool) (count handler : ℕ) (to : Bool) → One (λ after. Opened addresses before after count handler to)
+  -- places: the count and the list (push, owe, remove, drop_owed)
+  pub list : (places : List Place) → OneWith (λ count after. Becomes after count places)
+  -- router
+  pub route : (r : Router) (message before : List ℕ) → OneWith (λ out after. Routing (judgeMessage (viewOf r) (length before) message) r before after out)
+  pub give-up : (r : Router) (thread : ℕ) (before : List ℕ) → OneWith (λ out after. Routing (judgeGiveUp (viewOf r) (length before) thread) r before after out)
+  pub replaced : (r : Router) (address : ℕ) → One (Replacing (judgeReplaced (viewOf r) address) r)
+  pub part-to-send : (o : Outcome) (message reply : RefT (List ℕ)) → OnePart (Sending o message reply)
+  -- queue (fresh, with, taken), events
+  pub queue : (events : List Event) → One (λ q. Holds q events)
+  pub handle : (w : Result) → OneWith (λ h after. Handling w after h)
+  -- cutter
+  pub part-to-cut : (message : RefT (List ℕ)) → OnePart (PartToCut message)
+  pub cut-next : (part : List ℕ) (thread at : ℕ) (before : List ℕ) → OneWith (λ h after. HandsOut part thread at before after h)
+  pub next : (c : Cutter) (before : List ℕ) → OneWith (λ s after. Steps c before after s)
+  pub first-command : (message before : List ℕ) → OneWith (λ f after. Firsts message before after f)
+  pub begin : (message : RefT (List ℕ)) (b c : Begun) → Begins message b → Begins message c
+      → (b .start ≡ c .start) × SamePart (b .cutter .part) (c .cutter .part) × (b .cutter .thread ≡ c .cutter .thread) × (b .cutter .at ≡ c .cutter .at)
+  -- joiner
+  pub join : (j : Joiner) (piece before : List ℕ) → OneWith (λ r after. Joins j piece before after r)
+  pub joined-part : (answer : Answer) (buffer : RefT (List ℕ)) → OnePart (PartFor answer buffer)
+  pub get-next : (thread : ℕ) (before : List ℕ) → OneWith (λ w after. Asks thread before after w)
+  -- transcript
+  pub session-begin : (input : List ℕ) → One (transcript.Begun input)
+  pub session-next : (input : List ℕ) (w : Session) (before : List ℕ) → OneWith (λ t after. transcript.Gives input w before after t)
