@@ -4,7 +4,7 @@ use Rattle.demands.specs.Demands.{Demands}
 use Rattle.demands.proofs.One.{one-result}
 use Rattle.demands.proofs.Desk.{desk}
 use Rattle.demands.proofs.Cheats.{refuses-all, one-outcome, does-nothing, echoes, made-up}
-use Rattle.demands.proofs.Used.{start-with-fresh, start-fresh, used-lawful, promise-used, bounded-used, marks-used}
+use Rattle.demands.proofs.Used.{blank-fresh, start-with-fresh, start-fresh, used-lawful, promise-used, bounded-used, marks-used}
 
 pub demands : Demands
 demands = record {
@@ -15,8 +15,9 @@ demands = record {
   does-nothing = does-nothing;
   echoes = echoes;
   made-up = made-up;
+  blank-start = blank-fresh;
   start-with = start-with-fresh;
-  start = start-fresh;
+  lent-start = start-fresh;
   kept = λ first f h r u. record {
     law = used-lawful first f u;
     promise = promise-used first f u;

@@ -1,10 +1,11 @@
 -- Demand 1, from the rooms: each contract leaves one result.
-use mathlib.Core.Path.{_≡_, refl}
+use mathlib.Core.Path.{_≡_}
 use Rattle.lists.proofs.Tests.{one-value}
 use Rattle.message.proofs.Once as message
 use Rattle.table.proofs.Once as table
 use Rattle.places.proofs.Once as places
 use Rattle.router.proofs.Once as router
+use Rattle.sending.proofs.Once as sending
 use Rattle.queue.proofs.Once as queue
 use Rattle.events.proofs.Once as events
 use Rattle.cutter.proofs.Once as cutter
@@ -25,7 +26,7 @@ one-result = record {
   route = λ r message before x y a b. router.one-route r x y message before a b;
   give-up = λ r thread before x y a b. router.one-give-up r x y thread before a b;
   replaced = λ r address x y. router.one-replaced r x y address;
-  part-to-send = router.one-part-to-send;
+  part-to-send = sending.one-part-to-send;
   queue = λ es p q. queue.one-queue p q es;
   handle = λ w h k a b. events.one-handle w a b h k;
   part-to-cut = λ message x y p q. let s = cutter.one-part-to-cut message x y p q in (s .bytes, s .place);

@@ -6,7 +6,7 @@ use Rattle.table.specs.declared.Rows.{Rows}
 use Rattle.table.specs.Table.{Held}
 use Rattle.router.specs.declared.Router.{Router}
 use Rattle.router.specs.Router.{viewOf, Lawful}
-use Rattle.router.specs.Start.{startWith, startOf}
+use Rattle.start.specs.Start.{blank, startWith, startOf}
 use Rattle.history.specs.History.{Entry}
 use Rattle.history.specs.Marks.{Honest}
 use Rattle.history.specs.Promise.{EachBears, Promise, Bounded}
@@ -35,7 +35,8 @@ pub record Demands : Type 0 where
   pub echoes : (b : Build) → Meets b → Echoes b → ⊥
   pub made-up : (p : Printing) → Prints p → MadeUp p → ⊥
   -- 3. Every public start hands back a fresh router, and every run of the code from a fresh router keeps the promise; each premise on marks is needed
+  pub blank-start : Fresh blank
   pub start-with : (rows : Rows) → Held rows → Fresh (startWith rows .router)
-  pub start : (rows : List Row) → Fresh (startOf rows .router)
+  pub lent-start : (rows : List Row) → Fresh (startOf rows .router)
   pub kept : (first : Router) → Fresh first → (h : List Entry) (r : Router) → Used first h r → Kept first h r
   pub marks-needed : Needed

@@ -17,7 +17,7 @@ use Rattle.rules.specs.declared.Outcome.{Outcome}
 use Rattle.rules.specs.Judge.{judgeMessage, judgeGiveUp, judgeReplaced}
 use Rattle.router.specs.declared.Router.{Router}
 use Rattle.router.specs.Router.{viewOf, Routing, Replacing}
-use Rattle.router.specs.Sending.{Sending}
+use Rattle.sending.specs.Sending.{Sending}
 use Rattle.queue.specs.declared.Event.{Event}
 use Rattle.queue.specs.Places.{Holds}
 use Rattle.events.specs.Events.{Result, Handling}
