@@ -1,9 +1,11 @@
 // A kiosk in a few lines: a till driver asks its security module, which answers.
 //
 // docs/LIBRARY.md walks through it. Each line printed is what is to be sent on.
+use libc::STDERR_FILENO;
 use libc::STDOUT_FILENO;
 use router::Router;
 use start::Started;
+use table::Checked;
 use table::Row;
 ghost use Rattle.router.specs.Router.{Lawful};
 
@@ -49,6 +51,12 @@ fn carry(router: Router, message: &[u8]) -> Router
 
 fn main() {
     let started = begin();
+    // A refused table leaves a router that carries nothing, so the answer is looked at first.
+    let answer = started.answer;
+    let Checked::Accepted = answer else {
+        io::write_all(STDERR_FILENO, b"example: the table is refused\n");
+        return;
+    };
     let kiosk = started.router;
     // Thread 3: an ICC command with one data byte, and its response with the code '0000'.
     let asked = carry(kiosk, b"\x00\x01\x01\x00\x42\x03\x00\x01\xAA");
