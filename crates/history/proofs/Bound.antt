@@ -1,24 +1,23 @@
 -- 'Open questions plus late replies owed never exceed the single handlers plus eight times the rest', of the history alone.
 use Prim.Native.Nat.{ℕ, _+_, _*_, _≤_}
-use mathlib.Core.Path.{_≡_, refl, ap, _∙_}
+use mathlib.Core.Path.{_≡_, refl, _∙_}
 use mathlib.Core.Bool.{Bool, not}
 use mathlib.Core.List.{List, [], _∷_}
 use native.Mathlib.Omega.{arith}
-use lib.ListN.{length, length-map}
+use lib.ListN.{length}
 use Rattle.lists.specs.Lists.{count}
 use Rattle.lists.proofs.Tests.{split}
 use Rattle.table.specs.declared.Row.{Row}
 use Rattle.table.specs.Table.{isAt, isMulti, marked, setOpened, Proper}
-use Rattle.places.specs.Places.{waits, owings, owing}
 use Rattle.places.proofs.Two.{two}
 use Rattle.rules.specs.Words.{singles, multis, mostOf}
 use Rattle.rules.specs.Judge.{judge}
 use Rattle.rules.proofs.Kept.{rows-by}
 use Rattle.rules.proofs.Bound.{bound, bound-all}
-use Rattle.history.specs.History.{Step, Sent, viewAfter, history, openIn, owedIn}
+use Rattle.history.specs.History.{Step, viewAfter, history, openIn, owedIn}
 use Rattle.history.specs.Promise.{Bounded}
 use Rattle.history.proofs.Law.{conduct-after, proper-after}
-use Rattle.history.proofs.Told.{waits-told, owings-told}
+use Rattle.history.proofs.Told.{how-many-open, how-many-owed}
 
 -- a mark that is set moves no count of rows
 count-marked : (q : Row → Bool) → ((b : Bool) (r : Row) → q (marked b r) ≡ q r) → (h : ℕ) (b : Bool) (rows : List Row)
@@ -42,10 +41,7 @@ pub open-and-owed : (rows : List Row) (steps : List Step)
     → length (openIn (history rows steps)) + length (owedIn (history rows steps)) ≤ singles rows + 8 * multis rows
 open-and-owed rows steps =
     let v = viewAfter rows steps in
-    let h = history rows steps in
-    let w : length (waits (v .places)) ≡ length (openIn h) = ap length (waits-told rows steps) ∙ length-map (openIn h) (λ (c : Sent). c .command) in
-    let o : length (owings (v .places)) ≡ length (owedIn h) = ap length (owings-told rows steps) ∙ length-map (owedIn h) (λ (c : Sent). owing (c .command)) in
-    omega (arith, bound v (conduct-after rows steps), most-after rows steps, two (v .places), w, o)
+    omega (arith, bound v (conduct-after rows steps), most-after rows steps, two (v .places), how-many-open rows steps, how-many-owed rows steps)
 
 pub bounded-after : (rows : List Row) (steps : List Step) → Proper rows → Bounded rows (history rows steps) (viewAfter rows steps)
 bounded-after rows steps p =

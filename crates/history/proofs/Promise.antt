@@ -2,6 +2,7 @@
 use Prim.Native.Nat.{ℕ}
 use mathlib.Core.Path.{_≡_, refl, sym, ap, _∙_}
 use mathlib.Core.List.{List, [], _∷_}
+use native.Mathlib.Omega.{arith}
 use Rattle.table.specs.declared.Row.{Row}
 use Rattle.table.specs.Table.{Proper}
 use Rattle.rules.specs.View.{View}
@@ -15,7 +16,7 @@ use Rattle.history.specs.Promise.{Ran, begun, going, EndsOne, ConcernsIt
 use Rattle.history.proofs.Went.{went}
 use Rattle.history.proofs.Law.{conduct-after}
 use Rattle.history.proofs.Bound.{bounded-after}
-use Rattle.history.proofs.Told.{waits-told, owings-told}
+use Rattle.history.proofs.Told.{waits-told, owings-told, how-many-open}
 use Rattle.history.proofs.Ends.{ends-exactly-one, ends-its-own}
 use Rattle.history.proofs.Fates.{fate}
 use Rattle.history.proofs.Totals.{balanced}
@@ -44,7 +45,7 @@ promise rows steps = record {
   to-asker = each ConcernsIt rows (ends-its-own rows) steps;
   went = each (λ h e. Went e) rows (λ before s. went s _ (says (viewAfter rows before) (s .room) (s .call))) steps;
   bytes = each (λ h e. Says (e .step .call) (e .outcome)) rows (λ before s. says (viewAfter rows before) (s .room) (s .call)) steps;
-  balance = balanced rows steps;
+  balance = omega (arith, balanced rows steps, how-many-open rows steps);
 }
 
 -- ---- a run that the contracts tell

@@ -7,7 +7,7 @@ use mathlib.Core.List.{List, [], _∷_, _++_, map}
 use mathlib.Core.Option.{Option, none, some}
 use native.Mathlib.Omega.{arith}
 use lib.Dec.{eqb}
-use lib.ListN.{length}
+use lib.ListN.{length, length-map}
 use borrow.Author.Tests.{ne-eqb}
 use Rattle.lists.specs.Lists.{keep, All}
 use Rattle.lists.proofs.Tests.{split, clash, differ, eqb-same}
@@ -167,3 +167,10 @@ owings-told rows steps =
     let h = history rows steps in
     ap owings (sym (told rows steps))
     ∙ picked h isOwed (λ (c : Sent). owing (c .command)) (sent h) (All-map Opened _ (λ c s y e. owed-as h c y e s) (sent h) (sent-open h))
+
+-- and so they are as many
+pub how-many-open : (rows : List Row) (steps : List Step) → length (waits (viewAfter rows steps .places)) ≡ length (openIn (history rows steps))
+how-many-open rows steps = ap length (waits-told rows steps) ∙ length-map (openIn (history rows steps)) (λ (c : Sent). c .command)
+
+pub how-many-owed : (rows : List Row) (steps : List Step) → length (owings (viewAfter rows steps .places)) ≡ length (owedIn (history rows steps))
+how-many-owed rows steps = ap length (owings-told rows steps) ∙ length-map (owedIn (history rows steps)) (λ (c : Sent). owing (c .command))

@@ -51,8 +51,8 @@ pub record Promise (h : List Entry) (v : View) : Type 0 where
   pub went : Each (λ older e. Went e) h
   -- the outcomes carry what the calls' bytes say
   pub bytes : Each (λ older e. Says (e .step .call) (e .outcome)) h
-  -- accepted = answered + given up + waiting
-  pub balance : total isPassed h ≡ total isAnswered h + total isGiven h + length (waits (v .places))
+  -- accepted = answered + given up + waiting, all counted from the history
+  pub balance : total isPassed h ≡ total isAnswered h + total isGiven h + length (openIn h)
 
 -- and over an accepted table: the open commands and the owed ones 'never exceed the single handlers plus eight times the rest', and so
 -- are at most 44
