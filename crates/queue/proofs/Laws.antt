@@ -9,13 +9,13 @@ use native.Mathlib.Omega.{arith}
 use lib.Dec.{eqb}
 use lib.ListN.{length, replicate, getD, set, length-set, length-replicate}
 use lib.Seq.{append-snoc, getD-set-same, getD-set-other}
-use borrow.Author.Tests.{eq-eqb, ne-eqb, eqb-true, eqb-false}
+use borrow.Author.Tests.{lt-ltb, le-ltb, eq-eqb, ne-eqb, eqb-true, eqb-false}
 use Rattle.lists.specs.Lists.{first, without, find, withoutAt}
 use Rattle.lists.specs.declared.Found.the-variants.{At}
 use Rattle.lists.proofs.Cells.{same-all, set-small}
 use Rattle.queue.specs.declared.Event.{Event}
 use Rattle.queue.specs.declared.Queue.{Queue}
-use Rattle.queue.specs.Events.{most, oldest}
+use Rattle.queue.specs.Events.{most, oldest, added}
 use Rattle.queue.specs.Places.{eventIn, Packs, eventsFrom, eventsOf, Lawful, Holds}
 
 -- ---- reading
@@ -80,6 +80,12 @@ holds-none = record {
 }
 
 -- ---- one event more
+
+pub added-more : (e : Event) (es : List Event) → length es < most → added e es ≡ es ++ (e ∷ [])
+added-more e es h = rw (lt-ltb (length es) most h)
+
+pub added-none : (e : Event) (es : List Event) → most ≤ length es → added e es ≡ es
+added-none e es h = rw (le-ltb (length es) most h)
 
 pub holds-more : (q : Queue) (e : Event) (x : ℕ) → Lawful q → q .count < most → Packs e x
     → Holds (record { places = set (q .places) (q .count) x; count = q .count + 1 }) (eventsOf q ++ (e ∷ []))

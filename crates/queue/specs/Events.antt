@@ -1,9 +1,10 @@
 -- The event queue (section 13): the events that it holds, and what is asked of them. They stand oldest first.
 use Prim.Native.Nat.{ℕ}
-use mathlib.Core.Bool.{Bool, false, _&&_}
-use mathlib.Core.List.{List, [], _∷_}
+use mathlib.Core.Bool.{Bool, false, _&&_, cond}
+use mathlib.Core.List.{List, [], _∷_, _++_}
 use mathlib.Core.Option.{Option, none, some}
-use lib.Dec.{eqb, leb}
+use lib.Dec.{eqb, ltb, leb}
+use lib.ListN.{length}
 use Rattle.lists.specs.Lists.{checks}
 use Rattle.queue.specs.declared.Event.{Event}
 use Rattle.queue.specs.declared.Search.{Search}
@@ -18,6 +19,10 @@ most = 100
 abbrev pub oldest : List Event → Option Event
 oldest [] = none
 oldest (e ∷ es) = some e
+
+-- 'Add to a full queue drops the newcomer (house).'
+abbrev pub added : Event → List Event → List Event
+added e es = cond (ltb (length es) most) (es ++ (e ∷ [])) es
 
 -- ---- the search, by the table Search Type Coding: bit 1 is by location, bit 2 by type, all others are reserved
 

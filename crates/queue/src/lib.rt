@@ -5,12 +5,12 @@
 // has to know it.
 use lists::Found;
 ghost use mathlib.Core.Path.{_≡_};
-ghost use mathlib.Core.List.{[], _++_, _∷_};
+ghost use mathlib.Core.List.{[]};
 ghost use Prim.Native.Nat.{_<_};
 ghost use lib.Dec.{ltb};
 ghost use lib.ListN.{length};
 ghost use Rattle.lists.specs.Lists.{first, find, without, withoutAt};
-ghost use Rattle.queue.specs.Events.{most, oldest, knownSearch, meets, likeOf, sought};
+ghost use Rattle.queue.specs.Events.{most, oldest, added, knownSearch, meets, likeOf, sought};
 ghost use Rattle.queue.specs.Places.{Packs, eventIn, eventsOf, Lawful, Holds};
 
 // A type byte and the address where it happened.
@@ -149,14 +149,16 @@ impl Queue {
         }
     }
 
-    // One event more, where there is room.
+    // One event more, where there is room; a full queue stays as it is.
     pub fn with(self, event: Event) -> Queue
         requires { ⌜ Lawful self ⌝ }
-        requires { ⌜ length (eventsOf self) < most ⌝ }
-        ensures { λ r. ⌜ Holds r (eventsOf self ++ (event ∷ [])) ⌝ }
+        ensures { λ r. ⌜ Holds r (added event (eventsOf self)) ⌝ }
     {
         let mut next = self;
         let n = self.count;
+        if 100 <= n {
+            return next;
+        }
         next.places[n] = pack(event);
         next.count = n + 1;
         next

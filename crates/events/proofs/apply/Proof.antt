@@ -1,20 +1,22 @@
 -- `events::apply` meets its contract: an arm for each outcome. Assumes nothing.
 use mathlib.Core.Path.{refl, subst}
-use Rattle.queue.specs.Places.{eventsOf}
+use Rattle.queue.specs.Places.{eventsOf, Holds}
+use Rattle.queue.proofs.Laws.{added-more}
 use Rattle.events.specs.Events.{apply, Allowed}
 use borrow.Author.Needs.{needs}
 use Rattle.events.proofs.apply.Statement.{statement}
 use Rattle.events.proofs.apply.Tie as tie
-
-with-requires : tie.Need-with-requires
-with-requires c κs = (search needs, subst (Allowed (eventsOf (c .before .before .before .args .queue))) (c .before .outcome .given .1) (c .before .before .before .pre .1))
 
 enum-told : tie.Need-enum-told
 enum-told c = search needs
 
 returns : tie.Need-returns
 unfolding apply
-returns c = rw (c .before .before .outcome .given .1) (c .with .ensures)
+returns c =
+    let told = c .before .before .outcome .given .1 in
+    let start = c .before .before .before .before in
+    rw told
+    (subst (Holds _) (added-more _ (eventsOf (start .args .queue)) (subst (Allowed (eventsOf (start .args .queue))) told (start .pre .1))) (c .with .ensures))
 
 returns-2 : tie.Need-returns-2
 unfolding apply
@@ -37,7 +39,7 @@ apply-spec =
     tie.close
     (tie.spec
     (λ c. search needs)
-    with-requires
+    (λ c κs. search needs)
     enum-told
     (λ c. search needs)
     (λ c κs. search needs)

@@ -1,20 +1,23 @@
--- `queue::Queue::with` meets its contract: the event is packed into the first free place. Assumes nothing.
-use Prim.Native.Nat.{_<_}
+-- `queue::Queue::with` meets its contract: the event is packed into the first free place, if there is one. Assumes nothing.
+use mathlib.Core.Path.{sym, subst}
 use native.Mathlib.Omega.{arith}
-use Rattle.queue.specs.Events.{most}
-use Rattle.queue.proofs.Laws.{len, holds-more}
+use Rattle.queue.specs.Places.{eventsOf, Holds}
+use Rattle.queue.proofs.Laws.{len, added-more, added-none, holds-more}
 use borrow.Author.Needs.{needs}
 use Rattle.queue.proofs.Queue.with.Statement.{statement}
 use Rattle.queue.proofs.Queue.with.Tie as tie
 
-free : (c : tie.Start) → c .args .self .count < most
-free c = omega (arith, c .pre .1, len (c .args .self .places) 0 (c .args .self .count))
-
-element-write-next : tie.Need-element-write-next
-element-write-next c = let f = free (c .before) in search needs
-
 returns : tie.Need-returns
-returns c = holds-more _ _ _ (c .before .pre .0) (free (c .before)) (c .pack .ensures)
+returns c = record {
+  events = sym (added-none _ _ (omega (arith, len (c .before .args .self .places) 0 (c .before .args .self .count))));
+  law = c .before .pre;
+}
+
+returns-2 : tie.Need-returns-2
+returns-2 c =
+    let q = c .before .before .args .self in
+    subst (Holds _) (sym (added-more _ (eventsOf q) (omega (arith, len (q .places) 0 (q .count)))))
+    (holds-more q _ _ (c .before .before .pre) (omega arith) (c .pack .ensures))
 
 pub with-spec : {M : Type 1} → statement M
-with-spec = tie.close (tie.spec (λ c κs. search needs) (λ c. search needs) element-write-next (λ c. search needs) returns)
+with-spec = tie.close (tie.spec returns (λ c κs. search needs) (λ c. search needs) (λ c. search needs) (λ c. search needs) returns-2)
