@@ -11,7 +11,7 @@ use lib.ListN.{length}
 use denote.Ref.{RefT, now}
 use Rattle.message.specs.Message.{Wrote, DataPart}
 use Rattle.table.specs.Table.{Opened}
-use Rattle.places.specs.declared.Place.{Place}
+use Rattle.place.specs.declared.Place.{Place}
 use Rattle.places.specs.Places.{Becomes}
 use Rattle.rules.specs.declared.Outcome.{Outcome}
 use Rattle.rules.specs.Judge.{judgeMessage, judgeGiveUp, judgeReplaced}

@@ -15,7 +15,7 @@ use Rattle.lists.proofs.First.{first-yes, first-meets}
 use Rattle.lists.proofs.Members.{only, put, alone, in-kept}
 use Rattle.tapa.specs.Address.{handlerOf}
 use Rattle.table.specs.declared.Row.{Row}
-use Rattle.places.specs.declared.Place.{Place}
+use Rattle.place.specs.declared.Place.{Place}
 use Rattle.places.specs.Places.{isOwed, asksExactly, owesExactly, asks, owing}
 use Rattle.rules.specs.View.{View}
 use Rattle.rules.specs.declared.Outcome.{Outcome}

@@ -12,7 +12,7 @@ use borrow.Author.Tests.{not-true}
 use Rattle.lists.specs.Lists.{one, In}
 use Rattle.lists.proofs.Tests.{split, clash, and-yes, eqb-same}
 use Rattle.lists.proofs.Members.{in-either, in-one, in-all}
-use Rattle.places.specs.declared.Place.{Place}
+use Rattle.place.specs.declared.Place.{Place}
 use Rattle.places.specs.Places.{isOpen, isOwed, asks, owing}
 use Rattle.rules.specs.declared.Outcome.{Outcome}
 use Rattle.rules.specs.declared.Outcome.the-variants.{Passed, Answered, Swallowed, Event, Turned, Given, Reset, Refused}

@@ -14,7 +14,7 @@ use Rattle.lists.proofs.Tests.{split, clash, or-no, and-yes}
 use Rattle.lists.proofs.Counts.{count-some}
 use Rattle.lists.proofs.Members.{in-either, in-keep, in-count, in-one, in-all}
 use Rattle.table.specs.declared.Row.{Row}
-use Rattle.places.specs.declared.Place.{Place}
+use Rattle.place.specs.declared.Place.{Place}
 use Rattle.places.specs.Places.{isOpen, isOwed, onThread, asksExactly, owesExactly, asks, owing}
 use Rattle.rules.specs.View.{View}
 use Rattle.rules.specs.declared.Outcome.{Outcome}

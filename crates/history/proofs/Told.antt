@@ -15,7 +15,7 @@ use Rattle.lists.proofs.Counts.{All-map}
 use Rattle.lists.proofs.First.{without-same}
 use Rattle.lists.proofs.Members.{put, collect, collect-all, collect-keep, collect-changed}
 use Rattle.table.specs.declared.Row.{Row}
-use Rattle.places.specs.declared.Place.{Place}
+use Rattle.place.specs.declared.Place.{Place}
 use Rattle.places.specs.Places.{isOpen, isOwed, waits, owings, asksExactly, owesExactly, owedBy, owing}
 use Rattle.rules.specs.View.{View}
 use Rattle.rules.specs.declared.Outcome.{Outcome}

@@ -6,7 +6,7 @@ use lib.Dec.{eqb}
 use borrow.Author.Tests.{eqb-true}
 use Rattle.lists.proofs.Tests.{split, clash, and-yes}
 use Rattle.tapa.specs.Said.{Word, answered, swallowed, given, reset, Said, refused, says, rank, hasWord}
-use Rattle.places.specs.declared.Place.{Place}
+use Rattle.place.specs.declared.Place.{Place}
 use Rattle.places.specs.Places.{isOpen, isOwed, onThread, asksExactly, owesExactly, owedBy}
 use Rattle.rules.specs.declared.Outcome.{Outcome}
 use Rattle.rules.specs.Said.{saidOutcome}

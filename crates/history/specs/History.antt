@@ -15,7 +15,7 @@ use Rattle.message.specs.declared.Reading.the-variants.{Message}
 use Rattle.message.specs.declared.Coded.the-variants.{Code}
 use Rattle.message.specs.Message.{readOf, partOf, codeOf}
 use Rattle.table.specs.declared.Row.{Row}
-use Rattle.places.specs.declared.Place.{Place}
+use Rattle.place.specs.declared.Place.{Place}
 use Rattle.places.specs.Places.{isOpen, isOwed, asksExactly, owesExactly, owedBy, owing}
 use Rattle.rules.specs.View.{View, fresh}
 use Rattle.rules.specs.declared.Outcome.{Outcome}

@@ -6,7 +6,7 @@ use mathlib.Core.List.{List, [], _∷_}
 use lib.Dec.{eqb, ltb}
 use lib.ListN.{length}
 use Rattle.lists.specs.Lists.{In}
-use Rattle.places.specs.declared.Place.{Place}
+use Rattle.place.specs.declared.Place.{Place}
 use Rattle.places.specs.Places.{onThread, asks}
 use Rattle.rules.specs.declared.Outcome.{Outcome}
 use Rattle.history.specs.History.{Entry, Each, isAnswered, isSwallowed, isReset, named, Sent, sent, ended}

@@ -1,6 +1,3 @@
-pub mod Numbers
-pub mod Points
-pub mod Walks
-pub mod Two
-pub mod Changes
 pub mod Once
+pub mod Points
+pub mod Two

@@ -1,20 +1,19 @@
 -- The contracts leave one answer and one content of the lent array possible.
 use Prim.Native.Nat.{ℕ}
-use mathlib.Core.Path.{_≡_, sym, ap, _∙_}
+use mathlib.Core.Path.{_≡_}
 use mathlib.Core.List.{List}
-use lib.ListN.{length}
+use Rattle.lists.proofs.Arrays as arrays
 use Rattle.lists.specs.Lists.{keep, withoutAt, changedAt}
-use Rattle.places.specs.declared.Place.{Place}
-use Rattle.places.specs.Places.{placesOf, packed, Lawful, Becomes, pushed, owing, notOwedBy}
-use Rattle.places.proofs.Points.{len}
+use Rattle.place.specs.declared.Place.{Place}
+use Rattle.places.specs.Places.{pack, unpack, placesOf, Lawful, Becomes, pushed, owing, notOwedBy}
 
 -- a lawful list is known by its places: equal places, equal counts and arrays
 pub determined : (l m : List ℕ) (n k : ℕ) → Lawful l n → Lawful m k → placesOf l n ≡ placesOf m k → (n ≡ k) × (l ≡ m)
-determined l m n k h g e = (sym (len l n) ∙ ap length e ∙ len m k, h .whole ∙ ap packed e ∙ sym (g .whole))
+determined l m n k h g e = arrays.determined 48 pack unpack l m n k h g e
 
 -- two lists that become the same places are one
 pub one-list : (ps : List Place) (l m : List ℕ) (n k : ℕ) → Becomes l n ps → Becomes m k ps → (n ≡ k) × (l ≡ m)
-one-list ps l m n k a b = determined l m n k (a .law) (b .law) (a .holds ∙ sym (b .holds))
+one-list ps l m n k a b = arrays.one-array 48 pack unpack ps l m n k a b
 
 -- of a list lent to one of the functions that change it: its next count and its next content
 module _ (list : List ℕ) (n : ℕ) (l m : List ℕ) (i j : ℕ) where

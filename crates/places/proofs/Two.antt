@@ -8,7 +8,7 @@ use native.Mathlib.Omega.{arith}
 use lib.ListN.{length}
 use Rattle.lists.specs.Lists.{one, count, keep, first, without, changed}
 use Rattle.lists.proofs.Kept.{count-parts, length-parts, first-within, without-within, without-apart, changed-out, changed-in, keep-wider, keep-agrees}
-use Rattle.places.specs.declared.Place.{Place}
+use Rattle.place.specs.declared.Place.{Place}
 use Rattle.places.specs.Places.{isOpen, isOwed, waits, owings, owing, openOn, asksExactly, owesExactly, asks, notOwedBy}
 
 -- 'waits plus owings': the list has no other places

@@ -1,36 +1,11 @@
--- The passed commands that are not done with: what their list is, and the tests that the rules ask of it.
-use Prim.Native.Nat.{ℕ, zero, suc, _+_, _*_, _/_, _%_, _≤_, _<_}
-use mathlib.Core.Path.{_≡_}
-use mathlib.Core.Bool.{Bool, true, false, not, _&&_, _||_, cond}
-use mathlib.Core.List.{List, [], _∷_}
-use lib.Dec.{eqb, ltb, leb}
-use lib.ListN.{length, replicate, getD, set}
+-- The passed commands that are not done with: what their list is. The words on one of them are passed on from room place.
+use Prim.Native.Nat.{ℕ}
+use mathlib.Core.List.{List}
+use lib.ListN.{getD}
 use Rattle.lists.specs.Lists.{keep}
-use Rattle.tapa.specs.Address.{handlerOf, multi}
-use Rattle.places.specs.declared.Place.{Place}
-
--- ---- a place as one number: thread, type, asked, asker, and the mark of an owing on top
-
-abbrev pub pack : Place → ℕ
-pack p =
-    cond (p .owed) 0x1000000000000 0 + p .asker * 0x100000000 + p .asked * 0x10000 + p .kind * 0x100 + p .thread
-
-abbrev pub unpack : ℕ → Place
-unpack x = record {
-  asker = x / 0x100000000 % 0x10000;
-  asked = x / 0x10000 % 0x10000;
-  kind = x / 0x100 % 0x100;
-  thread = x % 0x100;
-  owed = leb 0x1000000000000 x;
-}
-
--- the number of a place: it fits 49 bits, and the place is read back from it
-pub record Packed (p : Place) (x : ℕ) : Type 0 where
-  pub same : x ≡ pack p
-  pub small : x < 0x2000000000000
-  pub back : unpack x ≡ p
-
--- ---- the list
+use Rattle.lists.specs.Arrays.{held, Holding, Becoming, pushed as pushedTo}
+use Rattle.place.specs.declared.Place.{Place}
+pub use Rattle.place.specs.Place.{pack, unpack, Packed, isOpen, isOwed, onThread, openOn, owedOn, asksExactly, owesExactly, asks, stands, standsOn, standsIn, onSlot, owedBy, notOwedBy, owing}
 
 -- the place with a number
 abbrev pub placeAt : List ℕ → ℕ → Place
@@ -38,96 +13,22 @@ placeAt l i = unpack (getD l i 0)
 
 -- the places of an array of which n are in use, the newest first
 abbrev pub placesOf : List ℕ → ℕ → List Place
-placesOf l zero = []
-placesOf l (suc n) = placeAt l n ∷ placesOf l n
+placesOf l n = held unpack l n
 
--- the array of a list of places: what is free is 0
-abbrev pub packed : List Place → List ℕ
-packed [] = replicate 48 0
-packed (p ∷ ps) = set (packed ps) (length ps) (pack p)
-
--- the law: 'waits plus owings' are at most 48, and the array is that of its places
-pub record Lawful (l : List ℕ) (n : ℕ) : Type 0 where
-  pub few : n ≤ 48
-  pub whole : l ≡ packed (placesOf l n)
+-- the law: 'waits plus owings' are at most 48, and each cell is the number of its place, or 0 where it is free
+abbrev pub Lawful : List ℕ → ℕ → Type 0
+Lawful l n = Holding 48 pack unpack l n
 
 -- what a change of the array shows: it holds these places, and keeps the law
-pub record Becomes (l : List ℕ) (n : ℕ) (ps : List Place) : Type 0 where
-  pub holds : placesOf l n ≡ ps
-  pub law : Lawful l n
+abbrev pub Becomes : List ℕ → ℕ → List Place → Type 0
+Becomes l n ps = Becoming 48 pack unpack l n ps
 
 -- one place more, where there is room
 abbrev pub pushed : Place → List Place → List Place
-pushed p ps = cond (ltb (length ps) 48) (p ∷ ps) ps
-
--- ---- tests
-
--- 'A wait is an accepted command'
-abbrev pub isOpen : Place → Bool
-isOpen x = not (x .owed)
-
--- 'An owing is a wait given up whose reply has not come.'
-abbrev pub isOwed : Place → Bool
-isOwed x = x .owed
+pushed p ps = pushedTo 48 p ps
 
 abbrev pub waits : List Place → List Place
 waits ps = keep isOpen ps
 
 abbrev pub owings : List Place → List Place
 owings ps = keep isOwed ps
-
-abbrev pub onThread : ℕ → Place → Bool
-onThread t x = eqb (x .thread) t
-
--- 'A thread's waits form its chain; the last is innermost': the first of these
-abbrev pub openOn : ℕ → Place → Bool
-openOn t x = isOpen x && onThread t x
-
-abbrev pub owedOn : ℕ → Place → Bool
-owedOn t x = isOwed x && onThread t x
-
--- a wait of the thread that has exactly this asked address
-abbrev pub asksExactly : ℕ → ℕ → Place → Bool
-asksExactly a t x = openOn t x && eqb (x .asked) a
-
--- 'this exact source is owed on this thread'
-abbrev pub owesExactly : ℕ → ℕ → Place → Bool
-owesExactly a t x = owedOn t x && eqb (x .asked) a
-
--- h is the asked handler
-abbrev pub asks : ℕ → Place → Bool
-asks h x = eqb (handlerOf (x .asked)) h
-
--- h stands in it 'as asker or asked'
-abbrev pub stands : ℕ → Place → Bool
-stands h x = eqb (handlerOf (x .asker)) h || asks h x
-
--- 'stands in this thread's chain as asker or asked'
-abbrev pub standsOn : ℕ → ℕ → Place → Bool
-standsOn t h x = openOn t x && stands h x
-
--- 'handler stands in a wait as asker or asked'
-abbrev pub standsIn : ℕ → Place → Bool
-standsIn h x = isOpen x && stands h x
-
--- 'is single and asked or owing on any thread; or is multi and owing on this thread'. A multi handler that is asked on this
--- thread stands in its chain, and is let through no more than one that is owing.
-abbrev pub onSlot : ℕ → ℕ → Place → Bool
-onSlot h t x = asks h x && (not (multi h) || onThread t x)
-
--- an owing of the handler: 'Else its owings end'
-abbrev pub owedBy : ℕ → Place → Bool
-owedBy h x = isOwed x && asks h x
-
-abbrev pub notOwedBy : ℕ → Place → Bool
-notOwedBy h x = not (owedBy h x)
-
--- 'The innermost wait becomes an owing'
-abbrev pub owing : Place → Place
-owing x = record {
-  asker = x .asker;
-  asked = x .asked;
-  kind = x .kind;
-  thread = x .thread;
-  owed = true;
-}

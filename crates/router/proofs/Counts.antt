@@ -8,7 +8,7 @@ use native.Mathlib.Omega.{arith}
 use lib.ListN.{length}
 use Rattle.lists.specs.Lists.{count}
 use Rattle.lists.proofs.Tests.{split}
-use Rattle.places.specs.declared.Place.{Place}
+use Rattle.place.specs.declared.Place.{Place}
 use Rattle.places.specs.Places.{placeAt, placesOf, isOpen, isOwed}
 use Rattle.places.proofs.Points.{len}
 

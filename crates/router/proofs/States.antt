@@ -5,7 +5,7 @@ use mathlib.Core.Bool.{Bool}
 use mathlib.Core.List.{List}
 use Rattle.table.specs.declared.Row.{Row}
 use Rattle.table.proofs.Once as table
-use Rattle.places.specs.declared.Place.{Place}
+use Rattle.place.specs.declared.Place.{Place}
 use Rattle.places.specs.Places.{placesOf}
 use Rattle.places.specs.Places as places
 use Rattle.places.proofs.Once as held

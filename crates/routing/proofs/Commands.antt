@@ -8,7 +8,7 @@ use Rattle.lists.specs.Lists.{onto}
 use Rattle.lists.proofs.Tests.{differ, checks-are}
 use Rattle.message.specs.declared.Head.{Head}
 use Rattle.message.specs.Message.{responded, responseOf}
-use Rattle.places.specs.declared.Place.{Place}
+use Rattle.place.specs.declared.Place.{Place}
 use Rattle.places.specs.Places.{placesOf, Becomes, pushed}
 use Rattle.places.specs.Places as places
 use Rattle.rules.specs.View.{View}

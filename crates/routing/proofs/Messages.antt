@@ -16,10 +16,10 @@ use Rattle.message.specs.declared.Head.{Head}
 use Rattle.message.specs.declared.Coded.{Coded}
 use Rattle.message.specs.Message.{responded, responseOf}
 use Rattle.table.specs.Table.{openedAt, rowsOf, Columns, Opened}
-use Rattle.places.specs.declared.Place.{Place}
+use Rattle.place.specs.declared.Place.{Place}
 use Rattle.places.specs.Places.{placeAt, placesOf, openOn, asksExactly, notOwedBy, owing, Becomes}
 use Rattle.places.specs.Places as places
-use Rattle.places.proofs.Walks.{here}
+use Rattle.places.proofs.Points.{here}
 use Rattle.rules.specs.View.{View}
 use Rattle.rules.specs.declared.Outcome.{Outcome}
 use Rattle.rules.specs.declared.Outcome.the-variants.{Event, Given, Reset, Refused}

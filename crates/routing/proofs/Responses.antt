@@ -14,9 +14,9 @@ use Rattle.tapa.specs.Codes.{successful, openHandler, closeHandler}
 use Rattle.tapa.specs.declared.Refusal.the-variants.{StrayResponse}
 use Rattle.message.specs.declared.Head.{Head}
 use Rattle.table.specs.Table.{rowsOf, Columns, Opened}
-use Rattle.places.specs.declared.Place.{Place}
+use Rattle.place.specs.declared.Place.{Place}
 use Rattle.places.specs.Places.{placeAt, placesOf, asksExactly, owesExactly, Becomes}
-use Rattle.places.proofs.Walks.{here}
+use Rattle.places.proofs.Points.{here}
 use Rattle.rules.specs.declared.Outcome.{Outcome}
 use Rattle.rules.specs.declared.Outcome.the-variants.{Answered, Swallowed, Refused}
 use Rattle.rules.specs.Judge.{late}

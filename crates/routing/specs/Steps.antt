@@ -7,7 +7,7 @@ use mathlib.Core.Option.{some}
 use Rattle.tapa.specs.declared.Refusal.{Refusal}
 use Rattle.table.specs.declared.Row.{Row}
 use Rattle.table.specs.Table.{rowsOf, Columns}
-use Rattle.places.specs.declared.Place.{Place}
+use Rattle.place.specs.declared.Place.{Place}
 use Rattle.places.specs.Places.{Becomes}
 use Rattle.rules.specs.View.{View}
 use Rattle.rules.specs.declared.Outcome.{Outcome}

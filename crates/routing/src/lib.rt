@@ -7,7 +7,7 @@ use lists::Found;
 use message::Coded;
 use message::Head;
 use message::Reading;
-use places::Place;
+use place::Place;
 use rules::Outcome;
 use ruling::Ruling;
 use tapa::Refusal;

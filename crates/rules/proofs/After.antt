@@ -15,7 +15,7 @@ use Rattle.tapa.specs.Address.{handlerOf, multi}
 use Rattle.tapa.specs.Codes.{successful, openHandler, closeHandler}
 use Rattle.table.specs.declared.Row.{Row}
 use Rattle.table.specs.Table.{listed, openedAt, setOpened, Proper}
-use Rattle.places.specs.declared.Place.{Place}
+use Rattle.place.specs.declared.Place.{Place}
 use Rattle.places.specs.Places.{isOwed, onThread, openOn, owedOn, asksExactly, owesExactly, asks, standsIn, onSlot, notOwedBy, owing}
 use Rattle.table.proofs.Marks.{set-opened}
 use Rattle.rules.specs.View.{View}

@@ -16,7 +16,7 @@ use Rattle.tapa.specs.Codes.{insufficientResources}
 use Rattle.message.specs.declared.Head.{Head}
 use Rattle.table.specs.declared.Row.{Row}
 use Rattle.table.specs.Table.{listed, isMulti, Proper}
-use Rattle.places.specs.declared.Place.{Place}
+use Rattle.place.specs.declared.Place.{Place}
 use Rattle.places.specs.Places.{onThread, asks, onSlot}
 use Rattle.rules.specs.View.{View}
 use Rattle.rules.specs.declared.Outcome.the-variants.{Passed}

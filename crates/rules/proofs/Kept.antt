@@ -15,7 +15,7 @@ use Rattle.tapa.specs.Address.{categoryOf, handlerOf, multi}
 use Rattle.tapa.specs.Codes.{successful, openHandler, closeHandler}
 use Rattle.table.specs.declared.Row.{Row}
 use Rattle.table.specs.Table.{listed, setOpened, Proper}
-use Rattle.places.specs.declared.Place.{Place}
+use Rattle.place.specs.declared.Place.{Place}
 use Rattle.places.specs.Places.{waits, onThread, openOn, asksExactly, owesExactly, asks, standsOn, onSlot, notOwedBy, owing}
 use Rattle.table.proofs.Marks.{set-proper, set-listed}
 use Rattle.places.proofs.Two.{waits-stay}

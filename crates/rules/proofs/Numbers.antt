@@ -18,7 +18,7 @@ use Rattle.message.specs.declared.Reading.the-variants.{Message, Refused as Unr
 use Rattle.message.specs.declared.Coded.the-variants.{Code, Missing}
 use Rattle.message.specs.Message.{readOf, partOf, codeOf, responseOf}
 use Rattle.table.specs.Table.{listed, openedAt}
-use Rattle.places.specs.declared.Place.{Place}
+use Rattle.place.specs.declared.Place.{Place}
 use Rattle.places.specs.Places.{openOn, owesExactly, standsIn}
 use Rattle.rules.specs.View.{View}
 use Rattle.rules.specs.Judge.{answerable, isAddEvent, closedTo, mayAsk, busy, judgeKind, message, giveUp, replaced, judge}

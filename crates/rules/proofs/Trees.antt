@@ -11,7 +11,7 @@ use Rattle.lists.proofs.Tests.{split, clash, or-no, and-yes, or-left, eqb-same}
 use Rattle.lists.proofs.Counts.{some-le, none-le}
 use Rattle.lists.proofs.First.{none-without, some-without, first-yes, first-strong}
 use Rattle.tapa.specs.Address.{categoryOf, handlerOf}
-use Rattle.places.specs.declared.Place.{Place}
+use Rattle.place.specs.declared.Place.{Place}
 use Rattle.places.specs.Places.{openOn, asksExactly, asks, stands, standsOn}
 use Rattle.rules.specs.Judge.{allows, mayAsk}
 use Rattle.rules.specs.Conduct.{grownIn, Grown, Tree, Chained}

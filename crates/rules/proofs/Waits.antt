@@ -9,7 +9,7 @@ use Rattle.lists.specs.Lists.{first, without, changed}
 use Rattle.lists.proofs.Tests.{split, clash, and-yes}
 use Rattle.lists.proofs.Kept.{some-within}
 use Rattle.tapa.specs.Address.{handlerOf}
-use Rattle.places.specs.declared.Place.{Place}
+use Rattle.place.specs.declared.Place.{Place}
 use Rattle.places.specs.Places.{isOpen, waits, onThread, openOn, asksExactly, owesExactly, asks, owing}
 use Rattle.places.proofs.Two.{asks-open, owes-owed, first-wait, waits-ended, waits-given as given, waits-kept}
 use Rattle.rules.specs.Judge.{allows, mayAsk}

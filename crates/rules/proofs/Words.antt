@@ -12,7 +12,7 @@ use Rattle.lists.proofs.Counts.{count-le, none-zero, none-le, some-ext, some-ke
 use Rattle.lists.proofs.Kept.{some-parts}
 use Rattle.tapa.specs.Address.{handlerOf, multi}
 use Rattle.table.specs.Table.{listed}
-use Rattle.places.specs.declared.Place.{Place}
+use Rattle.place.specs.declared.Place.{Place}
 use Rattle.places.specs.Places.{isOpen, isOwed, waits, owings, onThread, openOn, asks, standsOn, onSlot}
 use Rattle.rules.specs.View.{View}
 use Rattle.rules.specs.Judge.{mayAsk, busy}

@@ -11,7 +11,7 @@ use Rattle.tapa.specs.Codes.{successful, handlerError, openHandler, closeHandle
 use Rattle.message.specs.Message.{responseOf}
 use Rattle.table.specs.declared.Row.{Row}
 use Rattle.table.specs.Table.{setOpened}
-use Rattle.places.specs.declared.Place.{Place}
+use Rattle.place.specs.declared.Place.{Place}
 use Rattle.places.specs.Places.{asksExactly, owesExactly, notOwedBy, owing}
 use Rattle.rules.specs.View.{View}
 use Rattle.rules.specs.declared.Outcome.{Outcome}

@@ -9,7 +9,7 @@ use Rattle.lists.specs.Lists.{count, someOf, All}
 use Rattle.tapa.specs.Address.{categoryOf, handlerOf}
 use Rattle.table.specs.declared.Row.{Row}
 use Rattle.table.specs.Table.{listed}
-use Rattle.places.specs.declared.Place.{Place}
+use Rattle.place.specs.declared.Place.{Place}
 use Rattle.places.specs.Places.{isOpen, openOn, asks, onSlot}
 use Rattle.rules.specs.View.{View}
 use Rattle.rules.specs.Judge.{mayAsk}

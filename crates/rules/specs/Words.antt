@@ -9,7 +9,7 @@ use Rattle.lists.specs.Lists.{count, someOf, keep, All}
 use Rattle.tapa.specs.Address.{categoryOf, handlerOf, multi}
 use Rattle.table.specs.declared.Row.{Row}
 use Rattle.table.specs.Table.{listed, isMulti}
-use Rattle.places.specs.declared.Place.{Place}
+use Rattle.place.specs.declared.Place.{Place}
 use Rattle.places.specs.Places.{waits, owings, onThread, openOn, asks, standsOn}
 use Rattle.rules.specs.View.{View}
 

@@ -12,9 +12,9 @@ use Rattle.lists.specs.Lists.{find, first}
 use Rattle.lists.proofs.Tests.{split, differ}
 use Rattle.lists.proofs.First.{first-strong}
 use Rattle.lists.proofs.Numbers.{find-none}
-use Rattle.places.specs.declared.Place.{Place}
+use Rattle.place.specs.declared.Place.{Place}
 use Rattle.places.specs.Places.{placeAt, placesOf, openOn, asksExactly}
-use Rattle.places.proofs.Walks.{here}
+use Rattle.places.proofs.Points.{here}
 use Rattle.rules.specs.Judge.{ifExactly, answerable}
 use Rattle.rules.proofs.Waits.{exact-on}
 use Rattle.ruling.specs.Ruling.{ifAsked, answerAt}

@@ -12,9 +12,9 @@ use Rattle.lists.proofs.Numbers.{find-none}
 use Rattle.tapa.specs.Address.{categoryOf, handlerOf}
 use Rattle.tapa.specs.Codes.{addEvent, eventHandler}
 use Rattle.message.specs.declared.Head.{Head}
-use Rattle.places.specs.declared.Place.{Place}
+use Rattle.place.specs.declared.Place.{Place}
 use Rattle.places.specs.Places.{placeAt, placesOf, openOn, standsOn, onSlot}
-use Rattle.places.proofs.Walks.{here}
+use Rattle.places.proofs.Points.{here}
 use Rattle.rules.specs.Judge.{isAddEvent, allows, mayAsk, busy}
 
 -- ---- Type 'C0' to handler '0700'

@@ -8,7 +8,7 @@ use lib.ListN.{length, drop}
 use Rattle.lists.specs.Lists.{count}
 use Rattle.message.specs.Message.{responseOf, messageOf}
 use Rattle.places.specs.Places.{isOpen, isOwed}
-use Rattle.places.proofs.Points.{len, points}
+use Rattle.places.proofs.Points.{len}
 use Rattle.rules.specs.declared.Outcome.{Outcome}
 use Rattle.rules.specs.declared.Outcome.the-variants.{Passed, Answered, Swallowed, Event, Turned, Given, Reset, Refused}
 use Rattle.router.specs.declared.Router.{Router}
@@ -52,7 +52,7 @@ under-way : (r : Router) → Lawful r → (count isOpen (viewOf r .places) < 100
 under-way r g =
     let n = open-or-owed (viewOf r .places) in
     let m = len (r .list) (r .len) in
-    let k = points (r .list) (r .len) (g .held) .few in
+    let k = g .held .few in
     (omega (arith, n, m, k), omega (arith, n, m, k))
 
 module _ (s : List ℕ) (w : Session) (h : Sound s w) where

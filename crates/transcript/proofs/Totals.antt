@@ -8,7 +8,7 @@ use lib.ListN.{length, drop}
 use Rattle.lists.specs.Lists.{one, count, keep}
 use Rattle.lists.proofs.Tests.{split, differ}
 use Rattle.table.specs.declared.Row.{Row}
-use Rattle.places.specs.declared.Place.{Place}
+use Rattle.place.specs.declared.Place.{Place}
 use Rattle.places.specs.Places.{isOpen, isOwed}
 use Rattle.rules.specs.View.{fresh}
 use Rattle.rules.specs.declared.Outcome.{Outcome}

@@ -4,7 +4,7 @@ use mathlib.Core.Path.{_≡_, sym, ap, _∙_}
 use mathlib.Core.Logic.{⊎-elim}
 use native.Mathlib.Omega.{arith}
 use Rattle.lists.specs.Lists.{count}
-use Rattle.places.specs.declared.Place.{Place}
+use Rattle.place.specs.declared.Place.{Place}
 use Rattle.places.specs.Places.{placesOf, isOwed}
 use Rattle.router.proofs.Counts.{owed-hit, owed-miss}
 use borrow.Author.Needs.{needs}

@@ -3,7 +3,7 @@ use mathlib.Core.Path.{sym, _∙_}
 use Rattle.tapa.specs.declared.Refusal.the-variants.{ThreadAbove7, BufferTooSmall, NothingToGiveUp}
 use Rattle.places.specs.Places.{placesOf, openOn}
 use Rattle.lists.proofs.Numbers.{find-none}
-use Rattle.places.proofs.Walks.{here}
+use Rattle.places.proofs.Points.{here}
 use Rattle.rules.proofs.Steps.{give-up-small, give-up-thread, give-up-none, give-up-given}
 use Rattle.routing.proofs.Steps.{unwritten}
 use Rattle.routing.proofs.Messages.{gives}

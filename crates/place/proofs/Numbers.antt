@@ -1,12 +1,12 @@
 -- A place packed into a number, and back.
 use Prim.Native.Nat.{ℕ, _+_, _*_, _/_, _%_, _≤_, _<_}
-use mathlib.Core.Path.{_≡_, refl}
+use mathlib.Core.Path.{_≡_, refl, ap, _∙_}
 use mathlib.Core.Bool.{Bool, true, false, cond}
 use native.Mathlib.Omega.{arith}
 use lib.Dec.{leb}
 use borrow.Author.Tests.{leb-true, leb-false, le-leb, lt-leb}
-use Rattle.places.specs.declared.Place.{Place}
-use Rattle.places.specs.Places.{pack, unpack, owing, Packed}
+use Rattle.place.specs.declared.Place.{Place}
+use Rattle.place.specs.Place.{pack, unpack, owing, Packed}
 
 -- the fields of a number that was read, with the mark in front
 abbrev fields : ℕ → ℕ → ℕ
@@ -33,14 +33,6 @@ pack-unpack x h = go (leb 0x1000000000000 x) refl
     go : (b : Bool) → leb 0x1000000000000 x ≡ b → fields (cond b 0x1000000000000 0) x ≡ x
     go true e = omega (arith, forth x, leb-true 0x1000000000000 x e)
     go false e = omega (arith, forth x, leb-false 0x1000000000000 x e)
-
--- whatever is read packs into 49 bits
-pub pack-small : (x : ℕ) → pack (unpack x) < 0x2000000000000
-pack-small x = go (leb 0x1000000000000 x)
-  where
-    go : (b : Bool) → fields (cond b 0x1000000000000 0) x < 0x2000000000000
-    go true = omega arith
-    go false = omega arith
 
 -- a place whose fields fit their types is read back from its number
 module _ (a b k t : ℕ) (ha : a < 0x10000) (hb : b < 0x10000) (hk : k < 0x100) (ht : t < 0x100) where
@@ -82,3 +74,7 @@ pub marked-already : (x : ℕ) → 0x1000000000000 ≤ x → unpack x ≡ owing 
 marked-already x h =
     let e5 : leb 0x1000000000000 x ≡ true = le-leb 0x1000000000000 x h in
     cc
+
+-- what a test says of a place it says of the number that the place was read from
+pub told : (q : Place → Bool) {p p′ : Place} {b : Bool} → p ≡ p′ → b ≡ q p → b ≡ q p′
+told q e k = k ∙ ap q e

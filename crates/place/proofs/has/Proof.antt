@@ -1,9 +1,9 @@
--- `places::has` meets its contract. Assumes nothing.
+-- `place::has` meets its contract. Assumes nothing.
 use mathlib.Core.Path.{sym, _∙_}
 use borrow.Author.Tests.{eq-eqb, ne-eqb}
 use borrow.Author.Needs.{needs}
-use Rattle.places.proofs.has.Statement.{statement}
-use Rattle.places.proofs.has.Tie as tie
+use Rattle.place.proofs.has.Statement.{statement}
+use Rattle.place.proofs.has.Tie as tie
 
 handler-requires : tie.Need-handler-requires
 handler-requires c κs = search needs

@@ -1,8 +1,8 @@
--- `places::pack_of` meets its contract. Assumes nothing.
-use Rattle.places.proofs.Numbers.{open-packed, owed-packed}
+-- `place::pack_of` meets its contract. Assumes nothing.
+use Rattle.place.proofs.Numbers.{open-packed, owed-packed}
 use borrow.Author.Needs.{needs}
-use Rattle.places.proofs.pack_of.Statement.{statement}
-use Rattle.places.proofs.pack_of.Tie as tie
+use Rattle.place.proofs.pack_of.Statement.{statement}
+use Rattle.place.proofs.pack_of.Tie as tie
 
 cast-fields : tie.Need-cast-fields
 cast-fields c = search needs

@@ -1,0 +1,29 @@
+-- `place::has_open` meets its contract. Assumes nothing.
+use Rattle.place.specs.Place.{standsIn}
+use Rattle.place.proofs.Numbers.{told}
+use borrow.Author.Needs.{needs}
+use Rattle.place.proofs.has_open.Statement.{statement}
+use Rattle.place.proofs.has_open.Tie as tie
+
+place-of-requires : tie.Need-place-of-requires
+place-of-requires c κs = search needs
+
+returns : tie.Need-returns
+returns c =
+    let s = c .before in
+    let a = s .before .args in
+    told (standsIn (a .handler)) (s .place-of .ensures) (rw (c .if1 .taken))
+
+has-requires : tie.Need-has-requires
+has-requires c κs = search needs
+
+returns-2 : tie.Need-returns-2
+returns-2 c =
+    let s = c .before .before in
+    let a = s .before .args in
+    told (standsIn (a .handler)) (s .place-of .ensures) (rw (c .before .if1 .left) (c .has .ensures))
+
+pub has-open-spec : {M : Type 1} → statement M
+has-open-spec =
+    tie.close
+    (tie.spec place-of-requires returns has-requires returns-2)

@@ -1,0 +1,26 @@
+-- `place::open_on` meets its contract. Assumes nothing.
+use Rattle.place.specs.Place.{openOn}
+use Rattle.place.proofs.Numbers.{told}
+use borrow.Author.Needs.{needs}
+use Rattle.place.proofs.open_on.Statement.{statement}
+use Rattle.place.proofs.open_on.Tie as tie
+
+place-of-requires : tie.Need-place-of-requires
+place-of-requires c κs = search needs
+
+returns : tie.Need-returns
+returns c =
+    let s = c .before in
+    let a = s .before .args in
+    told (openOn (a .thread)) (s .place-of .ensures) (rw (c .if1 .taken))
+
+returns-2 : tie.Need-returns-2
+returns-2 c =
+    let s = c .before .before in
+    let a = s .before .args in
+    told (openOn (a .thread)) (s .place-of .ensures) (rw (c .before .if1 .left))
+
+pub open-on-spec : {M : Type 1} → statement M
+open-on-spec =
+    tie.close
+    (tie.spec place-of-requires returns returns-2)
