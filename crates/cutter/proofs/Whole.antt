@@ -12,7 +12,7 @@ use denote.Ref.{RefT, now}
 use Rattle.lists.specs.Lists.{count, onto}
 use Rattle.cutter.specs.declared.Cutter.{Cutter}
 use Rattle.cutter.specs.declared.Begun.{Begun}
-use Rattle.cutter.specs.Cutting.{startOf, threadOf, toCut, commandOf, pieceAt, p2At, commandAt, cutAt, writtenAt, stepOf, Begins}
+use Rattle.cutter.specs.Cutting.{startOf, threadOf, toCut, commandOf, pieceAt, p2At, commandAt, writtenAt, stepOf, Begins}
 use Rattle.cutter.specs.Handing.{commandCount, commandsFrom, commandsOf, p2Of, dataOf, together, IsLast, IsMore, Shaped, handedOut, handedBy, handedFrom, longEnough}
 use Rattle.cutter.proofs.Laws.{full-length, last-length, more-p2, last-p2, hands-small, hands-done, hands-out}
 
@@ -175,27 +175,20 @@ from-cutter (b ∷ bs) c =
     ap (λ (cs : List (List ℕ)). handedOut (stepOf c b .cut) (writtenAt (now (c .part)) (c .thread) (c .at) b) ++ cs)
     (from-cutter bs (stepOf c b .rest))
 
--- a cutter over a message, with enough buffers, hands out all of the response's data and no more
-pub cutter-whole : (message : RefT (List ℕ)) (b : Begun) (buffers : List (List ℕ)) → Begins message b → commandCount (length (toCut (now message))) ≤ count longEnough buffers
-    → Carries (toCut (now message)) (handedFrom (b .cutter) buffers)
-cutter-whole message b buffers begins l =
-    let e : handedFrom (b .cutter) buffers ≡ handedBy (toCut (now message)) (b .cutter .thread) 0 buffers =
-    from-cutter buffers (b .cutter) ∙ (λ i. handedBy (begins .part .bytes i) (b .cutter .thread) (begins .at i) buffers) in
-    rw e (handed-whole (toCut (now message)) (b .cutter .thread) buffers l .1)
-
--- the commands themselves, byte for byte, with the response's own thread
-by-cutter : (buffers : List (List ℕ)) (c : Cutter) → handedFrom c buffers ≡ handedBy (now (c .part)) (c .thread) (c .at) buffers
-by-cutter [] c = refl
-by-cutter (b ∷ bs) c =
-    ap (λ (cs : List (List ℕ)). handedOut (stepOf c b .cut) (writtenAt (now (c .part)) (c .thread) (c .at) b) ++ cs) (by-cutter bs (stepOf c b .rest))
-
+-- a cutter over a message, with enough buffers, hands out the commands themselves, byte for byte, with the response's own thread
 pub cutter-commands : (message : RefT (List ℕ)) (b : Begun) (buffers : List (List ℕ)) → Begins message b
     → commandCount (length (toCut (now message))) ≤ count longEnough buffers
     → handedFrom (b .cutter) buffers ≡ commandsOf (toCut (now message)) (threadOf (startOf (now message)))
 cutter-commands message b buffers begins l =
-    by-cutter buffers (b .cutter)
+    from-cutter buffers (b .cutter)
     ∙ (λ i. handedBy (begins .part .bytes i) (begins .thread i) (begins .at i) buffers)
     ∙ handed-whole (toCut (now message)) (threadOf (startOf (now message))) buffers l .0
+
+-- so all of the response's data, and no more
+pub cutter-whole : (message : RefT (List ℕ)) (b : Begun) (buffers : List (List ℕ)) → Begins message b → commandCount (length (toCut (now message))) ≤ count longEnough buffers
+    → Carries (toCut (now message)) (handedFrom (b .cutter) buffers)
+cutter-whole message b buffers begins l =
+    rw (cutter-commands message b buffers begins l) (carries (toCut (now message)) (threadOf (startOf (now message))))
 
 -- ---- sums at the desk
 

@@ -1,5 +1,5 @@
 -- The event queue (section 13): what a message asks of it, what is decided, and what that does. Events stand oldest first.
-use Prim.Native.Nat.{ℕ, _+_, _<_}
+use Prim.Native.Nat.{ℕ, _+_}
 use mathlib.Core.Path.{_≡_}
 use mathlib.Core.Bool.{Bool, true, false, not, _||_, cond}
 use mathlib.Core.List.{List, [], _∷_, _++_}
@@ -20,7 +20,7 @@ use Rattle.queue.specs.declared.Event.{Event}
 use Rattle.queue.specs.declared.Search.{Search}
 use Rattle.queue.specs.declared.Sought.{Sought}
 use Rattle.queue.specs.declared.Sought.the-variants.{One, Nothing as Nowhere}
-use Rattle.queue.specs.Events.{most, oldest, knownSearch, meets, likeOf, sought}
+use Rattle.queue.specs.Events.{most, oldest, added, knownSearch, meets, likeOf, sought}
 use Rattle.queue.specs.Places.{Holds}
 use Rattle.events.specs.declared.Command.{Command}
 use Rattle.events.specs.declared.Command.the-variants.{Add, WrongAdd, Get, Find, Flush, Wrong}
@@ -108,7 +108,7 @@ judge es Wrong = Coded unsupportedOperation
 
 -- to the queue; a taken event is the oldest of its like, and the gap closes
 unfoldable pub apply : Outcome → List Event → List Event
-apply (Added e) es = es ++ (e ∷ [])
+apply (Added e) es = added e es
 apply Ignored es = es
 apply (Taken e) es = without (meets (likeOf e)) es
 apply Emptied es = []
@@ -155,14 +155,6 @@ unfoldable pub handled : List Event → List ℕ → List ℕ → Result
 handled es message reply = obeys (checked (length reply) message) es (partOf message) reply
 
 -- ---- what the functions promise
-
--- what an outcome asks of the queue: an event is added where there is room
-abbrev pub Allowed : List Event → Outcome → Type 0
-Allowed es (Added e) = length es < most
-Allowed es Ignored = Unit {0}
-Allowed es (Taken e) = Unit {0}
-Allowed es Emptied = Unit {0}
-Allowed es (Coded code) = Unit {0}
 
 -- what a response came to: the answer, and what the lent buffer then holds
 pub record Answers (h : Head) (part : Option (List ℕ)) (before after : List ℕ) (a : Answer) : Type 0 where

@@ -15,7 +15,7 @@ ghost use mathlib.Core.Path.{_≡_};
 ghost use Prim.Native.Nat.{_+_, _≤_};
 ghost use lib.ListN.{length};
 ghost use Rattle.queue.specs.Places.{eventsOf, Lawful, Holds};
-ghost use Rattle.events.specs.Events.{elsewhere, checked, eventAt, commandOf, takenOr, judge, apply, carried, handled, Allowed, Answers, Handling};
+ghost use Rattle.events.specs.Events.{elsewhere, checked, eventAt, commandOf, takenOr, judge, apply, carried, handled, Answers, Handling};
 
 // A message that is the queue's, or why it is not looked at further.
 enum Checked {
@@ -233,7 +233,6 @@ fn judge(queue: Queue, command: Command) -> Outcome
 // Does what was decided.
 fn apply(queue: Queue, outcome: Outcome) -> Queue
     requires { ⌜ Lawful queue ⌝ }
-    requires { ⌜ Allowed (eventsOf queue) outcome ⌝ }
     ensures { λ r. ⌜ Holds r (apply outcome (eventsOf queue)) ⌝ }
 {
     match outcome {

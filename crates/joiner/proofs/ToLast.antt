@@ -1,19 +1,18 @@
 -- Where a response goes: after any calls from a fresh joiner, to the source of the last '42' command that was kept on its thread.
 use Prim.Native.Nat.{ℕ, _+_, _≤_}
-use mathlib.Core.Path.{_≡_, refl, sym, ap, _∙_}
+use mathlib.Core.Path.{_≡_, refl, _∙_}
 use mathlib.Core.Bool.{Bool, true, false, cond}
-use mathlib.Core.List.{List, [], _∷_, _++_}
-use mathlib.Core.Option.{Option, none, some}
+use mathlib.Core.List.{List, _++_}
+use mathlib.Core.Option.{none, some}
 use lib.ListN.{length, getD}
 use native.Mathlib.Omega.{arith}
 use Rattle.lists.specs.Lists.{All}
 use Rattle.tapa.specs.Numbers.{twoBytes}
 use Rattle.tapa.specs.Codes.{response, successful}
 use Rattle.message.specs.Message.{messageOf}
-use Rattle.joiner.specs.declared.Joiner.{Joiner}
 use Rattle.joiner.specs.Joining.{freshJoiner}
 use Rattle.joiner.specs.Sending.{together, Small, responseSent, Delivers}
-use Rattle.joiner.specs.Sources.{sourceFor, Call, joinerAfter, lastSource}
+use Rattle.joiner.specs.Sources.{Call, joinerAfter, lastSource}
 use Rattle.joiner.proofs.Delivered.{response-delivered}
 use Rattle.joiner.proofs.Sources.{fresh-last-kept}
 

@@ -1,25 +1,24 @@
 -- 'Each undoes the other': reading what was written, and writing what was read.
-use Prim.Native.Nat.{ℕ, zero, suc, _+_, _*_, _-_, _/_, _%_, _≤_, _<_}
+use Prim.Native.Nat.{ℕ, _+_, _*_, _-_, _/_, _%_, _≤_, _<_}
 use mathlib.Core.Path.{_≡_, refl, sym, ap, _∙_}
 use mathlib.Core.Bool.{Bool, true, false, cond}
-use mathlib.Core.List.{List, [], _∷_, _++_}
+use mathlib.Core.List.{List, [], _∷_}
 use native.Mathlib.Omega.{arith}
 use lib.Dec.{ltb}
 use lib.ListN.{length, take, drop, getD, length-drop}
 use lib.Seq.{take-at}
 use borrow.Author.Tests.{ltb-false}
-use Rattle.lists.specs.Lists.{onto, Bytes}
+use Rattle.lists.specs.Lists.{Bytes}
 use Rattle.tapa.specs.Numbers.{wordAt, twoBytes}
 use Rattle.tapa.specs.Codes.{response}
 use Rattle.tapa.specs.declared.Refusal.the-variants.{TooLong, BufferTooSmall}
 use Rattle.message.specs.declared.Head.{Head}
-use Rattle.message.specs.declared.Reading.{Reading}
-use Rattle.message.specs.declared.Reading.the-variants.{Message, Refused}
+use Rattle.message.specs.declared.Reading.the-variants.{Message}
 use Rattle.message.specs.declared.Coded.the-variants.{Code}
 use Rattle.message.specs.declared.Writing.{Writing}
 use Rattle.message.specs.declared.Writing.the-variants.{Written, Refused as WriteRefused}
-use Rattle.message.specs.Message.{headOf, readOf, partOf, codeOf, headBytes, messageOf, writingOf, Wrote, responseOf}
-use Rattle.message.proofs.Laws.{reads-whole, Whole, whole, part-of-message, writes}
+use Rattle.message.specs.Message.{readOf, partOf, codeOf, messageOf, writingOf, Wrote, responseOf}
+use Rattle.message.proofs.Laws.{reads-whole, whole, part-of-message, writes}
 
 -- a number that two bytes hold is given back by them
 both : (n : ℕ) → n / 256 * 256 + n % 256 ≡ n
@@ -80,11 +79,7 @@ module _ (destination source kind thread : ℕ) (part : List ℕ) where
       let b : take n after ≡ message = ap (take n) (w .buffer ∙ rw (sym (w .answer))) ∙ take-at message (drop (length message) before) n (long ∙ sym (t .size)) in
       record { bytes = b; fields = ap readOf b ∙ reads-message (t .few); same-part = ap partOf b ∙ part-message (t .few) }
 
--- a response that carries its code alone: ten bytes, which read as that response
-pub response-long : (destination source thread code : ℕ) → length (responseOf destination source thread code) ≡ 10
-unfolding responseOf messageOf
-response-long destination source thread code = refl
-
+-- a response that carries its code alone reads as that response
 pub reads-response : (destination source thread code : ℕ)
     → readOf (responseOf destination source thread code)
     ≡ Message record { destination = destination; source = source; kind = response; thread = thread; length = 2 }

@@ -1,5 +1,5 @@
 -- Laws of the message's definitions: what a reading and a writing answer, check by check.
-use Prim.Native.Nat.{ℕ, _+_, _*_, _-_, _≤_}
+use Prim.Native.Nat.{ℕ, _+_, _-_, _≤_}
 use mathlib.Core.Path.{_≡_, refl, sym}
 use mathlib.Core.Bool.{Bool, true, false, not, cond}
 use mathlib.Core.List.{List, [], _∷_, _++_}
@@ -18,7 +18,7 @@ use Rattle.message.specs.declared.Head.{Head}
 use Rattle.message.specs.declared.Reading.{Reading}
 use Rattle.message.specs.declared.Reading.the-variants.{Message, Refused}
 use Rattle.message.specs.declared.Coded.the-variants.{Code, Missing}
-use Rattle.message.specs.declared.Writing.the-variants.{Written, Refused as WriteRefused}
+use Rattle.message.specs.declared.Writing.the-variants.{Written}
 use Rattle.message.specs.Message.{headOf, readChecks, readOf, partOf, codeOf, headBytes, messageOf, writeChecks, writingOf, Wrote}
 use Rattle.message.specs.Said.{saidReading, saidCode, saidWriting}
 

@@ -3,7 +3,7 @@ use Prim.Native.Nat.{ℕ, zero, suc, _+_, _*_, _-_, _/_, _%_, _≤_, _<_}
 use mathlib.Core.Path.{_≡_, refl, sym, ap, _∙_}
 use mathlib.Core.Bool.{Bool, true, false, cond}
 use mathlib.Core.List.{List, [], _∷_, _++_, append-nil}
-use mathlib.Core.Option.{none, some}
+use mathlib.Core.Option.{some}
 use native.Mathlib.Numerals.{add-one}
 use native.Mathlib.Omega.{arith}
 use lib.Dec.{eqb}
@@ -23,9 +23,6 @@ use Rattle.queue.specs.Places.{eventIn, Packs, eventsFrom, eventsOf, Law
 pub len : (l : List ℕ) (i n : ℕ) → length (eventsFrom l i n) ≡ n
 len l i zero = refl
 len l i (suc n) = ap suc (len l (suc i) n)
-
-pub none-oldest : (l : List ℕ) (n : ℕ) → n ≡ 0 → oldest (eventsFrom l 0 n) ≡ none
-none-oldest l n e = ap (λ (k : ℕ). oldest (eventsFrom l 0 k)) e
 
 pub oldest-there : (l : List ℕ) (n : ℕ) → (n ≡ 0 → ⊥) → oldest (eventsFrom l 0 n) ≡ some (eventIn (getD l 0 0))
 oldest-there l n h =

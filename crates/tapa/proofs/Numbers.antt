@@ -1,5 +1,4 @@
 -- 'Refusal numbers': the page's table, line by line.
-use Prim.Native.Nat.{ℕ}
 use mathlib.Core.Path.{_≡_, refl}
 use mathlib.Core.List.{List, [], _∷_, map}
 use Rattle.tapa.specs.declared.Refusal.{Refusal}

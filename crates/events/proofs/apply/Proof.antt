@@ -1,8 +1,6 @@
 -- `events::apply` meets its contract: an arm for each outcome. Assumes nothing.
-use mathlib.Core.Path.{refl, subst}
-use Rattle.queue.specs.Places.{eventsOf, Holds}
-use Rattle.queue.proofs.Laws.{added-more}
-use Rattle.events.specs.Events.{apply, Allowed}
+use mathlib.Core.Path.{refl}
+use Rattle.events.specs.Events.{apply}
 use borrow.Author.Needs.{needs}
 use Rattle.events.proofs.apply.Statement.{statement}
 use Rattle.events.proofs.apply.Tie as tie
@@ -12,15 +10,11 @@ enum-told c = search needs
 
 returns : tie.Need-returns
 unfolding apply
-returns c =
-    let told = c .before .before .outcome .given .1 in
-    let start = c .before .before .before .before in
-    rw told
-    (subst (Holds _) (added-more _ (eventsOf (start .args .queue)) (subst (Allowed (eventsOf (start .args .queue))) told (start .pre .1))) (c .with .ensures))
+returns c = rw (c .before .before .outcome .given .1) (c .with .ensures)
 
 returns-2 : tie.Need-returns-2
 unfolding apply
-returns-2 c = rw (c .enum-told .given .1) (record { events = refl; law = c .before .before .pre .0 })
+returns-2 c = rw (c .enum-told .given .1) (record { events = refl; law = c .before .before .pre })
 
 returns-3 : tie.Need-returns-3
 unfolding apply
@@ -32,7 +26,7 @@ returns-4 c = rw (c .before .enum-told2 .given .1) (c .fresh .ensures)
 
 returns-5 : tie.Need-returns-5
 unfolding apply
-returns-5 c = rw (c .enum-told3 .given .1) (record { events = refl; law = c .before .before .pre .0 })
+returns-5 c = rw (c .enum-told3 .given .1) (record { events = refl; law = c .before .before .pre })
 
 pub apply-spec : {M : Type 1} → statement M
 apply-spec =

@@ -4,7 +4,6 @@ use lib.ListN.{length}
 use Rattle.events.specs.declared.Checked.the-variants.{Passed}
 use Rattle.events.specs.Events.{checked, commandOf, judge}
 use Rattle.queue.specs.Places.{eventsOf}
-use Rattle.events.proofs.Judging.{allowed}
 use Rattle.events.proofs.Replies.{passed-room, refusing, obeyed}
 use borrow.Author.Needs.{needs}
 use Rattle.events.proofs.handle.Statement.{statement}
@@ -13,9 +12,6 @@ use Rattle.events.proofs.handle.Tie as tie
 passed : (c : tie.After-head)
     → checked (length (c .before .before .before .before .before .args .reply .now)) (c .before .before .before .before .before .args .message .now) ≡ Passed (c .head .given .0 .0)
 passed c = sym (c .before .before .check .ensures) ∙ c .head .given .1
-
-apply-requires : tie.Need-apply-requires
-apply-requires c κs = (search needs, rw (c .judge .ensures) (allowed _ _))
 
 answered-requires : tie.Need-answered-requires
 answered-requires c κs = passed-room _ _ _ (passed (c .before .before .before .before .before .before))
@@ -44,7 +40,7 @@ handle-spec =
     (λ c κs. search needs)
     (λ c κs. search needs)
     (λ c κs. search needs)
-    apply-requires
+    (λ c κs. search needs)
     answered-requires
     returns
     (λ c. search needs)

@@ -1,10 +1,8 @@
 -- `queue::Queue::oldest_met` meets its contract: the number that a walk found leads to the event. Assumes nothing.
-use Prim.Native.Nat.{_<_}
-use mathlib.Core.Path.{_≡_, sym, ap, _∙_}
+use mathlib.Core.Path.{sym, ap, _∙_}
 use native.Mathlib.Nat.{zero-add}
 use native.Mathlib.Omega.{arith}
 use Rattle.lists.specs.Lists.{find}
-use Rattle.lists.specs.declared.Found.the-variants.{At}
 use Rattle.lists.proofs.Numbers.{find-none}
 use Rattle.queue.specs.Events.{meets, sought}
 use Rattle.queue.specs.Places.{eventsOf}
