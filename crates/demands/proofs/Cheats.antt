@@ -19,7 +19,7 @@ use Rattle.rules.specs.View.{View, fresh}
 use Rattle.rules.specs.declared.Outcome.{Outcome}
 use Rattle.rules.specs.declared.Outcome.the-variants.{Passed, Answered, Turned, Refused}
 use Rattle.rules.specs.Judge.{late, reply, judgeResponse, busy, judgeCommand, judgeKind, judgeRead, judgeMessage}
-use Rattle.rules.specs.Apply.{applied, reopened}
+use Rattle.rules.specs.Apply.{applied, answeredRows}
 use Rattle.rules.proofs.Sums.{row, rows, one-passed}
 use Rattle.router.specs.declared.Router.{Router}
 use Rattle.router.specs.Router.{viewOf, Lawful}
@@ -64,7 +64,7 @@ record Computed : Type 0 where
   pub waits-no-more : applied (Answered 0x0001 0x0100 3 0) one-passed ≡ fresh rows
 
 computed : Computed
-unfolding readOf partOf codeOf categoryOf handlerOf multi own common late reply judgeResponse busy judgeCommand judgeKind judgeRead judgeMessage reopened
+unfolding readOf partOf codeOf categoryOf handlerOf multi own common late reply judgeResponse busy judgeCommand judgeKind judgeRead judgeMessage answeredRows
 computed = record { too-short = refl; asked = refl; waits-on = refl; asked-again = refl; answered = refl; waits-no-more = refl }
 
 module _ (b : Build) (m : Meets b) where

@@ -4,6 +4,8 @@ use Rattle.lists.proofs.Tests.{one-value}
 use Rattle.message.proofs.Once as message
 use Rattle.table.proofs.Once as table
 use Rattle.places.proofs.Once as places
+use Rattle.ruling.proofs.Once as ruling
+use Rattle.routing.proofs.Once as routing
 use Rattle.router.proofs.Once as router
 use Rattle.sending.proofs.Once as sending
 use Rattle.queue.proofs.Once as queue
@@ -21,8 +23,12 @@ pub one-result : OneResult
 one-result = record {
   write = λ d s k t part before w v a b. message.one-write d s k t part before a b w v;
   data-part = message.one-data-part;
-  set-open = λ a before n h to m k. table.one-set-open a before m k n h to;
+  set-open = λ before n h to m k. table.one-set-open before m k n h to;
   list = λ ps n k l m. places.one-list ps l m n k;
+  rule-for = ruling.one-rule-for;
+  on-message = routing.one-on-message;
+  on-give-up = routing.one-on-give-up;
+  on-replaced = routing.one-on-replaced;
   route = λ r message before x y a b. router.one-route r x y message before a b;
   give-up = λ r thread before x y a b. router.one-give-up r x y thread before a b;
   replaced = λ r address x y. router.one-replaced r x y address;

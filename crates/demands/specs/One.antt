@@ -7,16 +7,18 @@ use Prim.Native.Nat.{ℕ}
 use mathlib.Core.Path.{_≡_}
 use mathlib.Core.List.{List}
 use mathlib.Core.Bool.{Bool}
-use lib.ListN.{length}
 use denote.Ref.{RefT, now}
+use Rattle.message.specs.declared.Head.{Head}
 use Rattle.message.specs.Message.{Wrote, DataPart}
 use Rattle.table.specs.Table.{Opened}
 use Rattle.place.specs.declared.Place.{Place}
 use Rattle.places.specs.Places.{Becomes}
 use Rattle.rules.specs.declared.Outcome.{Outcome}
-use Rattle.rules.specs.Judge.{judgeMessage, judgeGiveUp, judgeReplaced}
 use Rattle.router.specs.declared.Router.{Router}
-use Rattle.router.specs.Router.{viewOf, Routing, Replacing}
+use Rattle.ruling.specs.Ruling.{Lent, lent, ruled}
+use Rattle.routing.specs.declared.Step.{Step}
+use Rattle.routing.specs.Steps.{OnMessage, OnGiveUp, OnReplaced}
+use Rattle.router.specs.Router.{Routes, GivesUp, Replaces}
 use Rattle.sending.specs.Sending.{Sending}
 use Rattle.queue.specs.declared.Event.{Event}
 use Rattle.queue.specs.Places.{Holds}
@@ -49,14 +51,29 @@ pub record OneResult : Type 0 where
   -- message
   pub write : (destination source kind thread : ℕ) (part before : List ℕ) → OneWith (λ w after. Wrote destination source kind thread part before after w)
   pub data-part : (message : RefT (List ℕ)) → OnePart (DataPart message)
-  -- table: the marks
-  pub set-open : (addresses : List ℕ) (before : List Bool) (count handler : ℕ) (to : Bool) → One (λ after. Opened addresses before after count handler to)
+  -- table: the rows' numbers
+  pub set-open : (before : List ℕ) (count handler : ℕ) (to : Bool) → One (λ after. Opened before after count handler to)
   -- places: the count and the list (push, owe, remove, drop_owed)
   pub list : (places : List Place) → OneWith (λ count after. Becomes after count places)
+  -- ruling
+  pub rule-for : (h : Head) (o : Outcome) → One (λ r. ruled h r ≡ o)
+  -- routing: the answer, the list of places, the cells of the rows, the reply buffer
+  pub on-message : (list l l′ : RefT (List ℕ)) (k : ℕ) (s s′ : Step) (cells c c′ : RefT (List ℕ)) (n : ℕ) (message : Lent) (reply b b′ : RefT (List ℕ))
+      → OnMessage (lent cells c) n (lent list l) k message (lent reply b) s
+      → OnMessage (lent cells c′) n (lent list l′) k message (lent reply b′) s′
+      → (s ≡ s′) × (now l ≡ now l′) × (now c ≡ now c′) × (now b ≡ now b′)
+  pub on-give-up : (list l l′ : RefT (List ℕ)) (k : ℕ) (s s′ : Step) (thread : ℕ) (reply b b′ : RefT (List ℕ))
+      → OnGiveUp (lent list l) k thread (lent reply b) s
+      → OnGiveUp (lent list l′) k thread (lent reply b′) s′
+      → (s ≡ s′) × (now l ≡ now l′) × (now b ≡ now b′)
+  pub on-replaced : (list l l′ : RefT (List ℕ)) (k : ℕ) (s s′ : Step) (cells c c′ : RefT (List ℕ)) (n address : ℕ)
+      → OnReplaced (lent cells c) n (lent list l) k address s
+      → OnReplaced (lent cells c′) n (lent list l′) k address s′
+      → (s ≡ s′) × (now l ≡ now l′) × (now c ≡ now c′)
   -- router
-  pub route : (r : Router) (message before : List ℕ) → OneWith (λ out after. Routing (judgeMessage (viewOf r) (length before) message) r before after out)
-  pub give-up : (r : Router) (thread : ℕ) (before : List ℕ) → OneWith (λ out after. Routing (judgeGiveUp (viewOf r) (length before) thread) r before after out)
-  pub replaced : (r : Router) (address : ℕ) → One (Replacing (judgeReplaced (viewOf r) address) r)
+  pub route : (r : Router) (message before : List ℕ) → OneWith (λ out after. Routes r message before after out)
+  pub give-up : (r : Router) (thread : ℕ) (before : List ℕ) → OneWith (λ out after. GivesUp r thread before after out)
+  pub replaced : (r : Router) (address : ℕ) → One (Replaces r address)
   pub part-to-send : (o : Outcome) (message reply : RefT (List ℕ)) → OnePart (Sending o message reply)
   -- queue (fresh, with, taken), events
   pub queue : (events : List Event) → One (λ q. Holds q events)

@@ -12,7 +12,7 @@ use Rattle.message.specs.Message.{readOf, partOf, codeOf}
 use Rattle.table.specs.declared.Row.{Row}
 use Rattle.rules.specs.declared.Outcome.the-variants.{Passed, Answered, Swallowed, Given, Reset}
 use Rattle.rules.specs.Judge.{Call, message, giveUp, replaced, late, reply, judgeResponse, busy, judgeCommand, judgeKind, judgeRead, judgeMessage, yields, judgeGiveUp, judgeReplaced}
-use Rattle.rules.specs.Apply.{place, reopened}
+use Rattle.rules.specs.Apply.{place, answeredRows}
 use Rattle.rules.proofs.Sums.{rows, first-call, second-call, third-call, fourth-call}
 use Rattle.history.specs.History.{Step, Entry, history, openIn, owedIn, isPassed, isAnswered, isGiven, total}
 use Rattle.history.specs.Marks.{Honest, Bears}
@@ -33,7 +33,7 @@ longer = step late-call ∷ session
 
 pub outcomes : map (λ (e : Entry). e .outcome) (history rows longer)
     ≡ Swallowed 0x0001 3 ∷ Given 0x0100 0x0001 3 ∷ Answered 0x0202 0x0001 3 0xFF24 ∷ Passed 0x0001 0x0202 0x45 3 ∷ Passed 0x0100 0x0001 0x42 3 ∷ []
-unfolding readOf partOf codeOf categoryOf handlerOf multi own common late reply judgeResponse busy judgeCommand judgeKind judgeRead judgeMessage yields judgeGiveUp reopened
+unfolding readOf partOf codeOf categoryOf handlerOf multi own common late reply judgeResponse busy judgeCommand judgeKind judgeRead judgeMessage yields judgeGiveUp answeredRows
 outcomes = refl
 
 -- at the session's end its first command is owed, none is open; after the late response none is owed
@@ -46,7 +46,7 @@ pub record Ends : Type 0 where
   pub given-up : total isGiven (history rows session) ≡ 1
 
 pub ends : Ends
-unfolding readOf partOf codeOf categoryOf handlerOf multi own common late reply judgeResponse busy judgeCommand judgeKind judgeRead judgeMessage yields judgeGiveUp reopened
+unfolding readOf partOf codeOf categoryOf handlerOf multi own common late reply judgeResponse busy judgeCommand judgeKind judgeRead judgeMessage yields judgeGiveUp answeredRows
 ends = record { none-open = refl; one-owed = refl; none-owed = refl; accepted = refl; answered = refl; given-up = refl }
 
 -- the premises of `marks` can be met: the answered response replies to the second command, the swallowed one to the first
@@ -54,7 +54,7 @@ abbrev mark : ℕ → ℕ
 mark n = cond (eqb n 2) 1 0
 
 pub honest : Honest mark (history rows longer)
-unfolding readOf partOf codeOf categoryOf handlerOf multi own common late reply judgeResponse busy judgeCommand judgeKind judgeRead judgeMessage yields judgeGiveUp reopened
+unfolding readOf partOf codeOf categoryOf handlerOf multi own common late reply judgeResponse busy judgeCommand judgeKind judgeRead judgeMessage yields judgeGiveUp answeredRows
 honest = (
   λ e. record {
     of-it = record { no = 0; command = place 0x0100 0x0001 0x42 3 };
@@ -78,7 +78,7 @@ honest = (
 
 -- and so the late response is known to be the first command's
 pub late-bears : Bears mark (history rows session) (Swallowed 0x0001 3)
-unfolding readOf partOf codeOf categoryOf handlerOf multi own common late reply judgeResponse busy judgeCommand judgeKind judgeRead judgeMessage yields judgeGiveUp reopened
+unfolding readOf partOf codeOf categoryOf handlerOf multi own common late reply judgeResponse busy judgeCommand judgeKind judgeRead judgeMessage yields judgeGiveUp answeredRows
 late-bears = marks mark rows session (step late-call) honest
 
 -- ---- and over a replaced call: the reader gives no reply, is given up, exchanged and opened; the response that then comes replies to Open Handler
@@ -103,11 +103,11 @@ replaced-run =
 
 pub replaced-outcomes : map (λ (e : Entry). e .outcome) (history lent replaced-run)
     ≡ Answered 0x0202 0x0100 3 0 ∷ Passed 0x0100 0x0202 0xF0 3 ∷ Reset 0x0202 ∷ Given 0x0100 0x0202 3 ∷ Passed 0x0100 0x0202 0x45 3 ∷ []
-unfolding readOf partOf codeOf categoryOf handlerOf multi own common late reply judgeResponse busy judgeCommand judgeKind judgeRead judgeMessage yields judgeGiveUp judgeReplaced reopened
+unfolding readOf partOf codeOf categoryOf handlerOf multi own common late reply judgeResponse busy judgeCommand judgeKind judgeRead judgeMessage yields judgeGiveUp judgeReplaced answeredRows
 replaced-outcomes = refl
 
 pub honest-replaced : Honest (λ (n : ℕ). 3) (history lent replaced-run)
-unfolding readOf partOf codeOf categoryOf handlerOf multi own common late reply judgeResponse busy judgeCommand judgeKind judgeRead judgeMessage yields judgeGiveUp judgeReplaced reopened
+unfolding readOf partOf codeOf categoryOf handlerOf multi own common late reply judgeResponse busy judgeCommand judgeKind judgeRead judgeMessage yields judgeGiveUp judgeReplaced answeredRows
 honest-replaced = (
   λ e. record {
     of-it = record { no = 3; command = place 0x0100 0x0202 0xF0 3 };

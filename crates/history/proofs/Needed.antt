@@ -10,7 +10,7 @@ use Rattle.tapa.specs.Address.{categoryOf, handlerOf, multi}
 use Rattle.types.specs.Types.{own, common}
 use Rattle.message.specs.Message.{readOf, partOf, codeOf}
 use Rattle.rules.specs.Judge.{late, reply, judgeResponse, busy, judgeCommand, judgeKind, judgeRead, judgeMessage, yields, judgeGiveUp, judgeReplaced}
-use Rattle.rules.specs.Apply.{place, reopened}
+use Rattle.rules.specs.Apply.{place, answeredRows}
 use Rattle.rules.proofs.Sums.{rows, first-call, second-call, third-call}
 use Rattle.history.specs.History.{Step, Sent}
 use Rattle.history.specs.Needed.{Needed}
@@ -30,7 +30,7 @@ abbrev twice-run : List Step
 twice-run = step answer ∷ step ask ∷ step answer ∷ step ask ∷ []
 
 pub needed : Needed
-unfolding readOf partOf codeOf categoryOf handlerOf multi own common late reply judgeResponse busy judgeCommand judgeKind judgeRead judgeMessage yields judgeGiveUp judgeReplaced reopened
+unfolding readOf partOf codeOf categoryOf handlerOf multi own common late reply judgeResponse busy judgeCommand judgeKind judgeRead judgeMessage yields judgeGiveUp judgeReplaced answeredRows
 needed = record {
   address = record {
     rows = rows;

@@ -2,12 +2,10 @@
 use Prim.Native.Nat.{ℕ}
 use mathlib.Core.Path.{_≡_, sym, _∙_}
 use mathlib.Core.List.{List}
-use lib.ListN.{length}
 use Rattle.rules.specs.declared.Outcome.{Outcome}
-use Rattle.rules.specs.Judge.{judgeMessage, judgeGiveUp, judgeReplaced}
 use Rattle.router.specs.declared.Router.{Router}
 use Rattle.router.specs.declared.Routed.{Routed}
-use Rattle.router.specs.Router.{viewOf, Routing, Replacing}
+use Rattle.router.specs.Router.{Routing, Replacing, Routes, GivesUp, Replaces}
 use Rattle.router.proofs.States.{determined}
 
 same : (p q : Outcome) (r s : Router) → p ≡ q → r ≡ s → _≡_ {A = Routed} (record { outcome = p; next = r }) (record { outcome = q; next = s })
@@ -28,20 +26,11 @@ one-routing o r before after after′ x y a b = (
 )
 
 module _ (r : Router) (x y : Routed) where
-  pub one-route : (message before after after′ : List ℕ)
-      → Routing (judgeMessage (viewOf r) (length before) message) r before after x
-      → Routing (judgeMessage (viewOf r) (length before) message) r before after′ y
-      → (x ≡ y) × (after ≡ after′)
+  pub one-route : (message before after after′ : List ℕ) → Routes r message before after x → Routes r message before after′ y → (x ≡ y) × (after ≡ after′)
   one-route message before after after′ = one-routing _ r before after after′ x y
 
-  pub one-give-up : (thread : ℕ) (before after after′ : List ℕ)
-      → Routing (judgeGiveUp (viewOf r) (length before) thread) r before after x
-      → Routing (judgeGiveUp (viewOf r) (length before) thread) r before after′ y
-      → (x ≡ y) × (after ≡ after′)
+  pub one-give-up : (thread : ℕ) (before after after′ : List ℕ) → GivesUp r thread before after x → GivesUp r thread before after′ y → (x ≡ y) × (after ≡ after′)
   one-give-up thread before after after′ = one-routing _ r before after after′ x y
 
-  pub one-replaced : (address : ℕ)
-      → Replacing (judgeReplaced (viewOf r) address) r x
-      → Replacing (judgeReplaced (viewOf r) address) r y
-      → x ≡ y
+  pub one-replaced : (address : ℕ) → Replaces r address x → Replaces r address y → x ≡ y
   one-replaced address = one-replacing _ r x y

@@ -1,13 +1,11 @@
 -- From a step in place to the state by value; and that a state is known by its view.
 use Prim.Native.Nat.{ℕ}
 use mathlib.Core.Path.{_≡_, ap}
-use mathlib.Core.Bool.{Bool}
 use mathlib.Core.List.{List}
+use lib.ListN.{length}
 use Rattle.table.specs.declared.Row.{Row}
 use Rattle.table.proofs.Once as table
 use Rattle.place.specs.declared.Place.{Place}
-use Rattle.places.specs.Places.{placesOf}
-use Rattle.places.specs.Places as places
 use Rattle.places.proofs.Once as held
 use Rattle.rules.specs.View.{View}
 use Rattle.rules.specs.declared.Outcome.{Outcome}
@@ -16,7 +14,8 @@ use Rattle.rules.specs.Apply.{applied}
 use Rattle.rules.proofs.Kept as kept
 use Rattle.rules.proofs.Untouched.{give-up-rows}
 use Rattle.routing.specs.declared.Step.{Step}
-use Rattle.routing.specs.Steps.{Moving, Stepping, Giving}
+use Rattle.ruling.specs.Ruling.{heldView}
+use Rattle.routing.specs.Steps.{Writing, Moving, Stepping}
 use Rattle.router.specs.declared.Router.{Router}
 use Rattle.router.specs.Router.{viewOf, Lawful, Routing, Replacing}
 
@@ -27,57 +26,51 @@ views v w p q = go (v .rows) (w .rows) (v .places) (w .places) p q
     go a b c d p q = cc
 
 module _ (r : Router) (g : Lawful r) (room : ℕ) (call : Call) where
-  abbrev next : List Bool → List ℕ → ℕ → Router
-  next m l k = record { list = l; len = k; addresses = r .addresses; opens = m; count = r .count }
-
-  pub replaces : (m : List Bool) (l : List ℕ) (s : Step)
-      → Moving (judge (viewOf r) room call) (viewOf r) (r .addresses) m (r .count) l s
+  pub replaces : (c l : List ℕ) (s : Step)
+      → Moving (judge (viewOf r) room call) (viewOf r) c (r .count) l s
       → Replacing (judge (viewOf r) room call) r
-      (record { outcome = s .outcome; next = record { list = l; len = s .len; addresses = r .addresses; opens = m; count = r .count } })
-  replaces m l s x =
+      (record { outcome = s .outcome; next = record { list = l; len = s .len; cells = c; count = r .count } })
+  replaces c l s x =
       let o : Outcome = judge (viewOf r) room call in
-      let e : viewOf (next m l (s .len)) ≡ applied o (viewOf r) =
-      views (viewOf (next m l (s .len))) (applied o (viewOf r)) (x .rows) (x .placing .places .holds) in
+      let e : heldView c (r .count) l (s .len) ≡ applied o (viewOf r) =
+      views (heldView c (r .count) l (s .len)) (applied o (viewOf r)) (x .table .holds) (x .placing .places .holds) in
       let f = kept.lawful-call (viewOf r) room call (record { table = g .table; conduct = g .conduct }) in
       record {
         outcome = x .placing .outcome;
         view = e;
         law = record {
           held = x .placing .places .law;
-          columns = x .columns;
-          table = rw (x .rows) (f .table);
+          column = x .table .law;
+          table = rw (x .table .holds) (f .table);
           conduct = rw e (f .conduct);
         };
       }
 
-  pub routes : (m : List Bool) (l before after : List ℕ) (s : Step)
-      → Stepping (judge (viewOf r) room call) (viewOf r) (r .addresses) m (r .count) l before after s
+  pub routes : (c l before after : List ℕ) (s : Step)
+      → Stepping (judge (viewOf r) room call) (viewOf r) c (r .count) l before after s
       → Routing (judge (viewOf r) room call) r before after
-      (record { outcome = s .outcome; next = record { list = l; len = s .len; addresses = r .addresses; opens = m; count = r .count } })
-  routes m l before after s x =
-      let y = replaces m l s (x .moving) in
+      (record { outcome = s .outcome; next = record { list = l; len = s .len; cells = c; count = r .count } })
+  routes c l before after s x =
+      let y = replaces c l s (x .moving) in
       record { outcome = y .outcome; view = y .view; law = y .law; reply = x .reply }
 
 -- a give up looks at no row and moves none
-pub gives-up : (r : Router) → Lawful r → (room t : ℕ) (l before after : List ℕ) (s : Step)
-    → Giving (placesOf (r .list) (r .len)) room t l before after s
-    → Routing (judgeGiveUp (viewOf r) room t) r before after
-    (record { outcome = s .outcome; next = record { list = l; len = s .len; addresses = r .addresses; opens = r .opens; count = r .count } })
-gives-up r g room t l before after s f =
-    let x = f (viewOf r .rows) in
-    routes r g room (giveUp t) (r .opens) l before after s
-    (record { moving = record { placing = x .placing; rows = give-up-rows (viewOf r) room t; columns = g .columns }; reply = x .reply })
+pub gives-up : (r : Router) → Lawful r → (t : ℕ) (l before after : List ℕ) (s : Step)
+    → Writing (judgeGiveUp (viewOf r) (length before) t) (viewOf r .places) l before after s
+    → Routing (judgeGiveUp (viewOf r) (length before) t) r before after
+    (record { outcome = s .outcome; next = record { list = l; len = s .len; cells = r .cells; count = r .count } })
+gives-up r g t l before after s x =
+    routes r g (length before) (giveUp t) (r .cells) l before after s
+    (record { moving = record { placing = x .placing; table = record { holds = give-up-rows (viewOf r) (length before) t; law = g .column } }; reply = x .reply })
 
 -- ---- a lawful state is known by its view
 
-together : (l l′ : List ℕ) (n n′ : ℕ) (a a′ : List ℕ) (o o′ : List Bool) (c c′ : ℕ) → l ≡ l′ → n ≡ n′ → a ≡ a′ → o ≡ o′ → c ≡ c′
-    → _≡_ {A = Router} (record { list = l; len = n; addresses = a; opens = o; count = c }) (record { list = l′; len = n′; addresses = a′; opens = o′; count = c′ })
-together l l′ n n′ a a′ o o′ c c′ e1 e2 e3 e4 e5 = cc
+together : (l l′ : List ℕ) (n n′ : ℕ) (c c′ : List ℕ) (k k′ : ℕ) → l ≡ l′ → n ≡ n′ → c ≡ c′ → k ≡ k′
+    → _≡_ {A = Router} (record { list = l; len = n; cells = c; count = k }) (record { list = l′; len = n′; cells = c′; count = k′ })
+together l l′ n n′ c c′ k k′ e1 e2 e3 e4 = cc
 
 pub determined : (r s : Router) → Lawful r → Lawful s → viewOf r ≡ viewOf s → r ≡ s
 determined r s g h e =
     let p = held.determined (r .list) (s .list) (r .len) (s .len) (g .held) (h .held) (ap (λ (v : View). v .places) e) in
-    let q = table.determined (r .addresses) (s .addresses) (r .opens) (s .opens) (r .count) (s .count) (g .columns) (h .columns)
-    (ap (λ (v : View). v .rows) e) in
-    together (r .list) (s .list) (r .len) (s .len) (r .addresses) (s .addresses) (r .opens) (s .opens) (r .count) (s .count)
-    (p .1) (p .0) (q .0) (q .1) (q .2)
+    let q = table.determined (r .cells) (s .cells) (r .count) (s .count) (g .column) (h .column) (ap (λ (v : View). v .rows) e) in
+    together (r .list) (s .list) (r .len) (s .len) (r .cells) (s .cells) (r .count) (s .count) (p .1) (p .0) (q .1) (q .0)

@@ -2,10 +2,12 @@
 use Prim.Native.Nat.{ℕ}
 use mathlib.Core.Path.{_≡_}
 use mathlib.Core.List.{List}
-use Rattle.table.specs.Table.{Columns, Proper}
+use lib.ListN.{length}
+use Rattle.table.specs.Table.{Column, Proper}
 use Rattle.places.specs.Places as places
 use Rattle.rules.specs.View.{View}
 use Rattle.rules.specs.declared.Outcome.{Outcome}
+use Rattle.rules.specs.Judge.{judgeMessage, judgeGiveUp, judgeReplaced}
 use Rattle.rules.specs.Apply.{applied, written}
 use Rattle.rules.specs.Conduct.{Conduct}
 use Rattle.ruling.specs.Ruling.{heldView}
@@ -13,13 +15,13 @@ use Rattle.router.specs.declared.Router.{Router}
 use Rattle.router.specs.declared.Routed.{Routed}
 
 abbrev pub viewOf : Router → View
-viewOf r = heldView (r .addresses) (r .opens) (r .count) (r .list) (r .len)
+viewOf r = heldView (r .cells) (r .count) (r .list) (r .len)
 
 -- the law of every state that a start or a call hands back: the arrays hold what the view says and nothing else, the table was accepted
 -- (or has no rows, after a refused start), and the places keep the conduct
 pub record Lawful (r : Router) : Type 0 where
   pub held : places.Lawful (r .list) (r .len)
-  pub columns : Columns (r .addresses) (r .opens) (r .count)
+  pub column : Column (r .cells) (r .count)
   pub table : Proper (viewOf r .rows)
   pub conduct : Conduct (viewOf r)
 
@@ -35,3 +37,14 @@ pub record Replacing (o : Outcome) (r : Router) (out : Routed) : Type 0 where
   pub outcome : out .outcome ≡ o
   pub view : viewOf (out .next) ≡ applied o (viewOf r)
   pub law : Lawful (out .next)
+
+-- ---- the three calls: what each ensures of the message, and of the reply buffer before and after
+
+abbrev pub Routes : Router → (message before after : List ℕ) → Routed → Type 0
+Routes r message before after out = Routing (judgeMessage (viewOf r) (length before) message) r before after out
+
+abbrev pub GivesUp : Router → (thread : ℕ) → (before after : List ℕ) → Routed → Type 0
+GivesUp r t before after out = Routing (judgeGiveUp (viewOf r) (length before) t) r before after out
+
+abbrev pub Replaces : Router → (address : ℕ) → Routed → Type 0
+Replaces r a out = Replacing (judgeReplaced (viewOf r) a) r out

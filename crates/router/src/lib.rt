@@ -8,19 +8,16 @@
 // view it leaves one state possible: proofs/Once.antt.
 use rules::Outcome;
 ghost use mathlib.Core.Path.{_≡_};
-ghost use lib.ListN.{length};
 ghost use Rattle.lists.specs.Lists.{count as countOf};
 ghost use Rattle.places.specs.Places.{placesOf, isOpen, isOwed};
 ghost use Rattle.places.specs.Places as places;
-ghost use Rattle.rules.specs.Judge.{judgeMessage, judgeGiveUp, judgeReplaced};
-ghost use Rattle.router.specs.Router.{viewOf, Lawful, Routing, Replacing};
+ghost use Rattle.router.specs.Router.{viewOf, Lawful, Routes, GivesUp, Replaces};
 
-// The list of places with its length, and the table's two columns with their length.
+// The list of places with its length, and the table's rows with their count.
 pub struct Router {
     pub list: [u64; 48],
     pub len: usize,
-    pub addresses: [u16; 16],
-    pub opens: [bool; 16],
+    pub cells: [u32; 16],
     pub count: usize,
 }
 
@@ -34,26 +31,16 @@ pub struct Routed {
 impl Router {
     pub fn route(self, message: &[u8], reply: &mut [u8]) -> Routed
         requires { ⌜ Lawful self ⌝ }
-        ensures { λ r. ⌜ Routing (judgeMessage (viewOf self) (length (now (reply .entry))) (now (message .entry))) self (now (reply .entry)) (now (reply .exit)) r ⌝ }
+        ensures { λ r. ⌜ Routes self (now (message .entry)) (now (reply .entry)) (now (reply .exit)) r ⌝ }
     {
-        let addresses = self.addresses;
-        let mut opens = self.opens;
+        let mut cells = self.cells;
         let mut list = self.list;
-        let step = routing::on_message(
-            &addresses,
-            &mut opens,
-            self.count,
-            &mut list,
-            self.len,
-            message,
-            reply,
-        );
+        let step = routing::on_message(&mut cells, self.count, &mut list, self.len, message, reply);
         let outcome = step.outcome;
         let next = Router {
             list,
             len: step.len,
-            addresses,
-            opens,
+            cells,
             count: self.count,
         };
         Routed { outcome, next }
@@ -61,18 +48,16 @@ impl Router {
 
     pub fn give_up(self, thread: u8, reply: &mut [u8]) -> Routed
         requires { ⌜ Lawful self ⌝ }
-        ensures { λ r. ⌜ Routing (judgeGiveUp (viewOf self) (length (now (reply .entry))) thread) self (now (reply .entry)) (now (reply .exit)) r ⌝ }
+        ensures { λ r. ⌜ GivesUp self thread (now (reply .entry)) (now (reply .exit)) r ⌝ }
     {
-        let addresses = self.addresses;
-        let opens = self.opens;
+        let cells = self.cells;
         let mut list = self.list;
         let step = routing::on_give_up(&mut list, self.len, thread, reply);
         let outcome = step.outcome;
         let next = Router {
             list,
             len: step.len,
-            addresses,
-            opens,
+            cells,
             count: self.count,
         };
         Routed { outcome, next }
@@ -80,25 +65,16 @@ impl Router {
 
     pub fn replaced(self, address: u16) -> Routed
         requires { ⌜ Lawful self ⌝ }
-        ensures { λ r. ⌜ Replacing (judgeReplaced (viewOf self) address) self r ⌝ }
+        ensures { λ r. ⌜ Replaces self address r ⌝ }
     {
-        let addresses = self.addresses;
-        let mut opens = self.opens;
+        let mut cells = self.cells;
         let mut list = self.list;
-        let step = routing::on_replaced(
-            &addresses,
-            &mut opens,
-            self.count,
-            &mut list,
-            self.len,
-            address,
-        );
+        let step = routing::on_replaced(&mut cells, self.count, &mut list, self.len, address);
         let outcome = step.outcome;
         let next = Router {
             list,
             len: step.len,
-            addresses,
-            opens,
+            cells,
             count: self.count,
         };
         Routed { outcome, next }

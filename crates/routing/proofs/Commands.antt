@@ -3,32 +3,18 @@ use Prim.Native.Nat.{ℕ, _≤_, _<_}
 use mathlib.Core.Path.{_≡_, refl, _∙_}
 use mathlib.Core.List.{List}
 use lib.ListN.{length}
-use borrow.Author.Tests.{le-ltb, lt-ltb, leb-false}
+use borrow.Author.Tests.{le-ltb, lt-ltb}
 use Rattle.lists.specs.Lists.{onto}
-use Rattle.lists.proofs.Tests.{differ, checks-are}
 use Rattle.message.specs.declared.Head.{Head}
 use Rattle.message.specs.Message.{responded, responseOf}
 use Rattle.place.specs.declared.Place.{Place}
 use Rattle.places.specs.Places.{placesOf, Becomes, pushed}
 use Rattle.places.specs.Places as places
-use Rattle.rules.specs.View.{View}
 use Rattle.rules.specs.declared.Outcome.{Outcome}
 use Rattle.rules.specs.declared.Outcome.the-variants.{Passed}
-use Rattle.rules.specs.Judge.{turned, rules, judgeCommand}
+use Rattle.rules.specs.Judge.{turned}
 use Rattle.rules.specs.Apply.{place}
 use Rattle.routing.specs.Steps.{Writing}
-
-module _ (v : View) (h : Head) where
-  -- a passed command finds room
-  pub room : Passed (h .source) (h .destination) (h .kind) (h .thread) ≡ judgeCommand v h → length (v .places) < 48
-  unfolding judgeCommand
-  room e =
-      checks-are (λ (o : Outcome). Passed (h .source) (h .destination) (h .kind) (h .thread) ≡ o → length (v .places) < 48) (rules v h)
-      (Passed (h .source) (h .destination) (h .kind) (h .thread))
-      (λ q. differ (cc), (λ q. differ (cc), (λ q. differ (cc), (λ q. differ (cc), (λ q. differ (cc), (λ q. differ (cc), tt))))))
-      (λ a q. leb-false 48 (length (v .places)) (a .1 .1 .1 .1 .1 .0)) e
-
--- ---- what is done
 
 module _ (l : List ℕ) (n : ℕ) (g : places.Lawful l n) (h : Head) (o : Outcome) (b : List ℕ) where
   pub turns : (code : ℕ) (after : List ℕ) (u : Outcome)

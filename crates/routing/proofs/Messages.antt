@@ -1,7 +1,7 @@
 -- A message by its type, a give up, and a replaced call: what is done.
 use Prim.Native.Nat.{ℕ, _≤_}
 use mathlib.Core.Path.{_≡_, refl, sym, ap, subst, _∙_}
-use mathlib.Core.Bool.{Bool, true, false}
+use mathlib.Core.Bool.{true, false}
 use mathlib.Core.List.{List}
 use lib.ListN.{length}
 use borrow.Author.Tests.{eqb-true, le-ltb}
@@ -15,7 +15,7 @@ use Rattle.tapa.specs.declared.Refusal.the-variants.{EventCannotBeTaken}
 use Rattle.message.specs.declared.Head.{Head}
 use Rattle.message.specs.declared.Coded.{Coded}
 use Rattle.message.specs.Message.{responded, responseOf}
-use Rattle.table.specs.Table.{openedAt, rowsOf, Columns, Opened}
+use Rattle.table.specs.Table.{openedAt, rowsOf, Column, Opened}
 use Rattle.place.specs.declared.Place.{Place}
 use Rattle.places.specs.Places.{placeAt, placesOf, openOn, asksExactly, notOwedBy, owing, Becomes}
 use Rattle.places.specs.Places as places
@@ -34,44 +34,45 @@ use Rattle.routing.specs.Steps.{Writing, Moving, Stepping}
 -- ---- Type 'C0' to handler '0700'
 
 -- an event changes nothing, and neither does its refusal
-module _ (a : List ℕ) (m : List Bool) (n : ℕ) (l : List ℕ) (k : ℕ) (g : places.Lawful l k) (c : Columns a m n) (b : List ℕ) where
-  pub event-steps : (u o : Outcome) → u ≡ judgeEvent (rowsOf a m n) → o ≡ judgeEvent (rowsOf a m n)
-      → Stepping u (heldView a m n l k) a m n l b b (record { outcome = o; len = k })
-  event-steps u o d e = rw (d, e) (split (openedAt eventHandler (rowsOf a m n)) (λ p. rw p (nothing Event refl refl refl)) (λ p. rw p (nothing (Refused EventCannotBeTaken) refl refl refl)))
+module _ (c : List ℕ) (n : ℕ) (l : List ℕ) (k : ℕ) (g : places.Lawful l k) (d : Column c n) (b : List ℕ) where
+  pub event-steps : (u o : Outcome) → u ≡ judgeEvent (rowsOf c n) → o ≡ judgeEvent (rowsOf c n)
+      → Stepping u (heldView c n l k) c n l b b (record { outcome = o; len = k })
+  event-steps u o p q =
+      rw (p, q) (split (openedAt eventHandler (rowsOf c n)) (λ p. rw p (nothing Event refl refl refl)) (λ p. rw p (nothing (Refused EventCannotBeTaken) refl refl refl)))
     where
-      nothing : (u : Outcome) → placesOf l k ≡ placesAfter u (placesOf l k) → rowsOf a m n ≡ rowsAfter u (heldView a m n l k) → b ≡ written u b
-          → Stepping u (heldView a m n l k) a m n l b b (record { outcome = u; len = k })
+      nothing : (u : Outcome) → placesOf l k ≡ placesAfter u (placesOf l k) → rowsOf c n ≡ rowsAfter u (heldView c n l k) → b ≡ written u b
+          → Stepping u (heldView c n l k) c n l b b (record { outcome = u; len = k })
       nothing u p r w = record {
-        moving = record { placing = record { outcome = refl; places = record { holds = p; law = g } }; rows = r; columns = c };
+        moving = record { placing = record { outcome = refl; places = record { holds = p; law = g } }; table = record { holds = r; law = d } };
         reply = w;
       }
 
 -- ---- by type
 
 module _ (v : View) (h : Head) (code : Coded) where
-  pub response-steps : (o : Outcome) (coded : Coded) (a : List ℕ) (m : List Bool) (n : ℕ) (l b : List ℕ) (s : Step)
+  pub response-steps : (o : Outcome) (coded : Coded) (c : List ℕ) (n : ℕ) (l b : List ℕ) (s : Step)
       → o ≡ judgeResponse (v .places) h code
       → coded ≡ code
-      → Moving (judgeResponse (v .places) h coded) v a m n l s
-      → Stepping o v a m n l b b s
-  response-steps o coded a m n l b s e k p =
+      → Moving (judgeResponse (v .places) h coded) v c n l s
+      → Stepping o v c n l b b s
+  response-steps o coded c n l b s e k p =
       rw e (record { moving = rw (← k) p; reply = response-writes (v .places) h code b })
 
-pub command-steps : (v : View) (h : Head) (o : Outcome) (a : List ℕ) (m : List Bool) (n : ℕ) (l b after : List ℕ) (s : Step)
+pub command-steps : (v : View) (h : Head) (o : Outcome) (c : List ℕ) (n : ℕ) (l b after : List ℕ) (s : Step)
     → o ≡ judgeCommand v h
-    → rowsOf a m n ≡ v .rows
-    → Columns a m n
+    → rowsOf c n ≡ v .rows
+    → Column c n
     → Writing (judgeCommand v h) (v .places) l b after s
-    → Stepping o v a m n l b after s
-command-steps v h o a m n l b after s e r c w =
-    rw e (record { moving = record { placing = w .placing; rows = r ∙ command-rows v h; columns = c }; reply = w .reply })
+    → Stepping o v c n l b after s
+command-steps v h o c n l b after s e r g w =
+    rw e (record { moving = record { placing = w .placing; table = record { holds = r ∙ command-rows v h; law = g } }; reply = w .reply })
 
 -- a step with an outcome, by another name of it
-pub step-as : (u o : Outcome) (v : View) (a : List ℕ) (m : List Bool) (n : ℕ) (l b after : List ℕ) (s : Step)
+pub step-as : (u o : Outcome) (v : View) (c : List ℕ) (n : ℕ) (l b after : List ℕ) (s : Step)
     → u ≡ o
-    → Stepping o v a m n l b after s
-    → Stepping u v a m n l b after s
-step-as u o v a m n l b after s e x = rw e x
+    → Stepping o v c n l b after s
+    → Stepping u v c n l b after s
+step-as u o v c n l b after s e x = rw e x
 
 -- ---- Give up
 
@@ -111,10 +112,10 @@ module _ (l : List ℕ) (n t i : ℕ) (f : find (openOn t) (placesOf l n) ≡ At
 
 -- ---- Replaced
 
-pub resets : (a : List ℕ) (before after : List Bool) (n : ℕ) (l : List ℕ) (k : ℕ) (m : List ℕ) (less h : ℕ) (o : Outcome)
+pub resets : (before after : List ℕ) (n : ℕ) (l : List ℕ) (k : ℕ) (m : List ℕ) (less h : ℕ) (o : Outcome)
     → o ≡ Reset h
-    → Opened a before after n h false
+    → Opened before after n h false
     → Becomes m less (keep (notOwedBy h) (placesOf l k))
-    → Moving o (heldView a before n l k) a after n m (record { outcome = Reset h; len = less })
-resets a before after n l k m less h o e p b =
-    rw e (record { placing = record { outcome = refl; places = record { holds = b .holds; law = b .law } }; rows = p .holds; columns = p .law })
+    → Moving o (heldView before n l k) after n m (record { outcome = Reset h; len = less })
+resets before after n l k m less h o e p b =
+    rw e (record { placing = record { outcome = refl; places = record { holds = b .holds; law = b .law } }; table = record { holds = p .holds; law = p .law } })

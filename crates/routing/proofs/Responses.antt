@@ -1,7 +1,7 @@
 -- Type 'FF': what is done with the place that was found.
 use Prim.Native.Nat.{ℕ}
 use mathlib.Core.Path.{_≡_, refl, sym, ap, _∙_}
-use mathlib.Core.Bool.{Bool, true, false}
+use mathlib.Core.Bool.{true, false}
 use mathlib.Core.List.{List}
 use mathlib.Core.Option.{Option}
 use borrow.Author.Tests.{eq-eqb, ne-eqb}
@@ -13,19 +13,19 @@ use Rattle.tapa.specs.Address.{handlerOf}
 use Rattle.tapa.specs.Codes.{successful, openHandler, closeHandler}
 use Rattle.tapa.specs.declared.Refusal.the-variants.{StrayResponse}
 use Rattle.message.specs.declared.Head.{Head}
-use Rattle.table.specs.Table.{rowsOf, Columns, Opened}
+use Rattle.table.specs.Table.{rowsOf, Column, Opened}
 use Rattle.place.specs.declared.Place.{Place}
 use Rattle.places.specs.Places.{placeAt, placesOf, asksExactly, owesExactly, Becomes}
 use Rattle.places.proofs.Points.{here}
 use Rattle.rules.specs.declared.Outcome.{Outcome}
 use Rattle.rules.specs.declared.Outcome.the-variants.{Answered, Swallowed, Refused}
 use Rattle.rules.specs.Judge.{late}
-use Rattle.rules.specs.Apply.{reopened}
+use Rattle.rules.specs.Apply.{answeredRows}
 use Rattle.rules.proofs.Steps.{late-swallowed, late-stray}
 use Rattle.rules.proofs.Untouched.{late-rows}
 use Rattle.ruling.specs.Ruling.{heldView}
 use Rattle.ruling.proofs.Answers.{Answers}
-use Rattle.routing.specs.Steps.{Placing, Moving, Reopening}
+use Rattle.routing.specs.Steps.{Placing, Moving, OpenOrClosed}
 
 -- ---- a late response
 
@@ -47,53 +47,49 @@ module _ (l : List ℕ) (n : ℕ) (h : Head) where
 
 -- ---- a handler opened or closed
 
-module _ (a : List ℕ) (before : List Bool) (n : ℕ) (w : Place) (code : ℕ) where
-  pub reopens-not : Columns a before n → (code ≡ successful → ⊥) → Reopening a before before n w code
-  unfolding reopened
-  reopens-not c x = record { rows = rw (ne-eqb code successful x); columns = c }
+module _ (before : List ℕ) (n : ℕ) (w : Place) (code : ℕ) where
+  pub opens-not : Column before n → (code ≡ successful → ⊥) → OpenOrClosed before before n w code
+  unfolding answeredRows
+  opens-not c x = record { holds = rw (ne-eqb code successful x); law = c }
 
-  pub reopens-other : Columns a before n → code ≡ successful → (w .kind ≡ openHandler → ⊥) → (w .kind ≡ closeHandler → ⊥) → Reopening a before before n w code
-  unfolding reopened
-  reopens-other c e x y =
-      record { rows = rw (eq-eqb code successful e, ne-eqb (w .kind) openHandler x, ne-eqb (w .kind) closeHandler y); columns = c }
+  pub opens-other : Column before n → code ≡ successful → (w .kind ≡ openHandler → ⊥) → (w .kind ≡ closeHandler → ⊥) → OpenOrClosed before before n w code
+  unfolding answeredRows
+  opens-other c e x y =
+      record { holds = rw (eq-eqb code successful e, ne-eqb (w .kind) openHandler x, ne-eqb (w .kind) closeHandler y); law = c }
 
-  module _ (after : List Bool) (h : ℕ) (e : code ≡ successful) (k : h ≡ handlerOf (w .asked)) where
-    pub reopens-open : w .kind ≡ openHandler → Opened a before after n h true → Reopening a before after n w code
-    unfolding reopened
-    reopens-open x o = record {
-      rows = rw (eq-eqb code successful e, eq-eqb (w .kind) openHandler x) (rw k at (o .holds));
-      columns = o .law;
-    }
+  module _ (after : List ℕ) (h : ℕ) (e : code ≡ successful) (k : h ≡ handlerOf (w .asked)) where
+    pub opens : w .kind ≡ openHandler → Opened before after n h true → OpenOrClosed before after n w code
+    unfolding answeredRows
+    opens x o = record { holds = rw (eq-eqb code successful e, eq-eqb (w .kind) openHandler x) (rw k at (o .holds)); law = o .law }
 
-    pub reopens-close : (w .kind ≡ openHandler → ⊥) → w .kind ≡ closeHandler → Opened a before after n h false → Reopening a before after n w code
-    unfolding reopened
-    reopens-close y x o = record {
-      rows = rw (eq-eqb code successful e, ne-eqb (w .kind) openHandler y, eq-eqb (w .kind) closeHandler x) (rw k at (o .holds));
-      columns = o .law;
+    pub closes : (w .kind ≡ openHandler → ⊥) → w .kind ≡ closeHandler → Opened before after n h false → OpenOrClosed before after n w code
+    unfolding answeredRows
+    closes y x o = record {
+      holds = rw (eq-eqb code successful e, ne-eqb (w .kind) openHandler y, eq-eqb (w .kind) closeHandler x) (rw k at (o .holds));
+      law = o .law;
     }
 
 -- ---- a response
 
-module _ (a : List ℕ) (before : List Bool) (n : ℕ) (l : List ℕ) (k : ℕ) (o : Outcome) where
+module _ (c : List ℕ) (n : ℕ) (l : List ℕ) (k : ℕ) (o : Outcome) where
   pub late-moves : (h : Head) (m : List ℕ) (less : ℕ) (u : Outcome)
       → o ≡ late (placesOf l k) h
-      → Columns a before n
+      → Column c n
       → Placing (late (placesOf l k) h) (placesOf l k) m (record { outcome = u; len = less })
-      → Moving o (heldView a before n l k) a before n m (record { outcome = u; len = less })
-  late-moves h m less u e c p = rw e (record { placing = p; rows = late-rows (heldView a before n l k) h; columns = c })
+      → Moving o (heldView c n l k) c n m (record { outcome = u; len = less })
+  late-moves h m less u e g p = rw e (record { placing = p; table = record { holds = late-rows (heldView c n l k) h; law = g } })
 
-  pub answers : (after : List Bool) (m : List ℕ) (less i code source dest t : ℕ)
+  pub answers : (after m : List ℕ) (less i code source dest t : ℕ)
       → o ≡ Answered source dest t code
       → Answers l k source t i
-      → Reopening a before after n (placeAt l i) code
+      → OpenOrClosed c after n (placeAt l i) code
       → Becomes m less (withoutAt i (placesOf l k))
-      → Moving o (heldView a before n l k) a after n m (record { outcome = Answered source dest t code; len = less })
+      → Moving o (heldView c n l k) after n m (record { outcome = Answered source dest t code; len = less })
   answers after m less i code source dest t e x r b =
       rw e (record {
         placing = record {
           outcome = refl;
           places = record { holds = b .holds ∙ end-found (asksExactly source t) (placesOf l k) i (x .found); law = b .law };
         };
-        rows = r .rows ∙ ap (λ (w : Option Place). reopened w code (rowsOf a before n)) (sym (x .first-is));
-        columns = r .columns;
+        table = record { holds = r .holds ∙ ap (λ (w : Option Place). answeredRows w code (rowsOf c n)) (sym (x .first-is)); law = r .law };
       })

@@ -1,10 +1,9 @@
 -- Steps that refuse: nothing moves and nothing is written.
 use Prim.Native.Nat.{ℕ}
 use mathlib.Core.Path.{_≡_, refl}
-use mathlib.Core.Bool.{Bool}
 use mathlib.Core.List.{List}
 use Rattle.tapa.specs.declared.Refusal.{Refusal}
-use Rattle.table.specs.Table.{Columns}
+use Rattle.table.specs.Table.{Column}
 use Rattle.places.specs.Places.{placesOf}
 use Rattle.places.specs.Places as places
 use Rattle.rules.specs.declared.Outcome.{Outcome}
@@ -20,10 +19,10 @@ module _ (l : List ℕ) (n : ℕ) (h : places.Lawful l n) where
   pub unwritten : (b : List ℕ) (o : Outcome) (r : Refusal) (s : Step) → s ≡ refusing r n → o ≡ Refused r → Writing o (placesOf l n) l b b s
   unwritten b o r s d e = record { placing = unplaced o r s d e; reply = rw e }
 
-  module _ (a : List ℕ) (m : List Bool) (k : ℕ) (g : Columns a m k) where
-    pub unmoved : (o : Outcome) (r : Refusal) (s : Step) → s ≡ refusing r n → o ≡ Refused r → Moving o (heldView a m k l n) a m k l s
-    unmoved o r s d e = record { placing = unplaced o r s d e; rows = rw e; columns = g }
+  module _ (c : List ℕ) (k : ℕ) (g : Column c k) where
+    pub unmoved : (o : Outcome) (r : Refusal) (s : Step) → s ≡ refusing r n → o ≡ Refused r → Moving o (heldView c k l n) c k l s
+    unmoved o r s d e = record { placing = unplaced o r s d e; table = record { holds = rw e; law = g } }
 
     pub unstepped : (b : List ℕ) (o : Outcome) (r : Refusal) (s : Step) → s ≡ refusing r n → o ≡ Refused r
-        → Stepping o (heldView a m k l n) a m k l b b s
+        → Stepping o (heldView c k l n) c k l b b s
     unstepped b o r s d e = record { moving = unmoved o r s d e; reply = rw e }

@@ -15,14 +15,13 @@ ghost use mathlib.Core.Path.{_≡_};
 ghost use Prim.Native.Nat.{_≤_};
 ghost use lib.ListN.{length};
 ghost use Rattle.message.specs.Message.{codeOf, partOf};
-ghost use Rattle.table.specs.Table.{Columns};
-ghost use Rattle.places.specs.Places.{placesOf};
+ghost use Rattle.table.specs.Table.{Column};
 ghost use Rattle.places.specs.Places as places;
-ghost use Rattle.rules.specs.Judge.{late, judgeResponse, turned, judgeCommand, judgeKind, judgeMessage, judgeReplaced};
+ghost use Rattle.rules.specs.Judge.{late, judgeResponse, turned, judgeCommand, judgeKind};
 ghost use Rattle.rules.specs.Apply.{place};
-ghost use Rattle.ruling.specs.Ruling.{heldView, ruled};
+ghost use Rattle.ruling.specs.Ruling.{viewIn, placesIn, ruled};
 ghost use Rattle.ruling.specs.declared.Ruling.the-variants.{On};
-ghost use Rattle.routing.specs.Steps.{refusing, Placing, Writing, Moving, Stepping, Reopening, Giving};
+ghost use Rattle.routing.specs.Steps.{refusing, Placed, Moved, Wrote, Stepped, OpenOrClosed, OnMessage, OnGiveUp, OnReplaced};
 
 // What a function that works in place answers: the outcome, and how many places there are now.
 pub struct Step {
@@ -43,32 +42,26 @@ fn refuse(refusal: Refusal, len: usize) -> Step
 // ---- Type 'FF'
 
 // The handler of an answered Open Handler or Close Handler becomes open or closed.
-fn open_or_close(
-    addresses: &[u16; 16],
-    opens: &mut [bool; 16],
-    count: usize,
-    wait: Place,
-    code: u16,
-)
-    requires { ⌜ Columns (now addresses) (now opens) count ⌝ }
-    ensures { λ _. ⌜ Reopening (now (addresses .entry)) (now (opens .entry)) (now (opens .exit)) count wait code ⌝ }
+fn open_or_close(cells: &mut [u32; 16], count: usize, wait: Place, code: u16)
+    requires { ⌜ Column (now cells) count ⌝ }
+    ensures { λ _. ⌜ OpenOrClosed (now (cells .entry)) (now (cells .exit)) count wait code ⌝ }
 {
     if code != tapa::SUCCESSFUL {
         return;
     }
     if wait.kind == tapa::OPEN_HANDLER {
-        table::set_open(addresses, opens, count, tapa::handler(wait.asked), true);
+        table::set_open(cells, count, tapa::handler(wait.asked), true);
         return;
     }
     if wait.kind == tapa::CLOSE_HANDLER {
-        table::set_open(addresses, opens, count, tapa::handler(wait.asked), false);
+        table::set_open(cells, count, tapa::handler(wait.asked), false);
     }
 }
 
 // A response that no wait wants: it is owed, or it is a stray.
 fn on_late(list: &mut [u64; 48], len: usize, head: Head) -> Step
     requires { ⌜ places.Lawful (now list) len ⌝ }
-    ensures { λ s. ⌜ Placing (late (placesOf (now (list .entry)) len) head) (placesOf (now (list .entry)) len) (now (list .exit)) s ⌝ }
+    ensures { λ s. ⌜ Placed (late (placesIn list len) head) list len s ⌝ }
 {
     match places::find_owed(list, len, head.source, head.thread) {
         Found::At(i) => {
@@ -86,8 +79,7 @@ fn on_late(list: &mut [u64; 48], len: usize, head: Head) -> Step
 }
 
 fn on_response(
-    addresses: &[u16; 16],
-    opens: &mut [bool; 16],
+    cells: &mut [u32; 16],
     count: usize,
     list: &mut [u64; 48],
     len: usize,
@@ -95,8 +87,8 @@ fn on_response(
     coded: Coded,
 ) -> Step
     requires { ⌜ places.Lawful (now list) len ⌝ }
-    requires { ⌜ Columns (now addresses) (now opens) count ⌝ }
-    ensures { λ s. ⌜ Moving (judgeResponse (placesOf (now (list .entry)) len) head coded) (heldView (now (addresses .entry)) (now (opens .entry)) count (now (list .entry)) len) (now (addresses .entry)) (now (opens .exit)) count (now (list .exit)) s ⌝ }
+    requires { ⌜ Column (now cells) count ⌝ }
+    ensures { λ s. ⌜ Moved (judgeResponse (placesIn list len) head coded) cells count list len s ⌝ }
 {
     let Coded::Code(code) = coded else {
         return refuse(Refusal::NoResponseCode, len);
@@ -108,7 +100,7 @@ fn on_response(
     if wait.asker != head.destination {
         return refuse(Refusal::WrongAsker, len);
     }
-    open_or_close(addresses, opens, count, wait, code);
+    open_or_close(cells, count, wait, code);
     let less = places::remove(list, len, at);
     Step {
         outcome: Outcome::Answered {
@@ -159,9 +151,8 @@ fn wait_of(head: Head) -> Place
 }
 
 // Does what the rules say: a response into the reply buffer, or one place more.
-fn on_command<'a>(
-    addresses: &'a [u16; 16],
-    opens: &'a [bool; 16],
+fn on_command(
+    cells: &[u32; 16],
     count: usize,
     list: &mut [u64; 48],
     len: usize,
@@ -171,9 +162,9 @@ fn on_command<'a>(
     requires { ⌜ places.Lawful (now list) len ⌝ }
     requires { ⌜ count ≤ 16 ⌝ }
     requires { ⌜ 10 ≤ length (now reply) ⌝ }
-    ensures { λ s. ⌜ Writing (judgeCommand (heldView (now (addresses .entry)) (now (opens .entry)) count (now (list .entry)) len) head) (placesOf (now (list .entry)) len) (now (list .exit)) (now (reply .entry)) (now (reply .exit)) s ⌝ }
+    ensures { λ s. ⌜ Wrote (judgeCommand (viewIn cells count list len) head) list len reply s ⌝ }
 {
-    match ruling::rule_for(addresses, opens, count, list, len, head) {
+    match ruling::rule_for(cells, count, list, len, head) {
         Ruling::Back(code) => {
             message::respond(reply, head.source, head.destination, head.thread, code);
             let outcome = turned_back(head, code);
@@ -191,8 +182,7 @@ fn on_command<'a>(
 
 // A message that passed the common checks, by its type.
 fn on_type(
-    addresses: &[u16; 16],
-    opens: &mut [bool; 16],
+    cells: &mut [u32; 16],
     count: usize,
     list: &mut [u64; 48],
     len: usize,
@@ -201,25 +191,24 @@ fn on_type(
     reply: &mut [u8],
 ) -> Step
     requires { ⌜ places.Lawful (now list) len ⌝ }
-    requires { ⌜ Columns (now addresses) (now opens) count ⌝ }
+    requires { ⌜ Column (now cells) count ⌝ }
     requires { ⌜ 10 ≤ length (now reply) ⌝ }
-    ensures { λ s. ⌜ Stepping (judgeKind (heldView (now (addresses .entry)) (now (opens .entry)) count (now (list .entry)) len) head (codeOf (partOf (now (message .entry))))) (heldView (now (addresses .entry)) (now (opens .entry)) count (now (list .entry)) len) (now (addresses .entry)) (now (opens .exit)) count (now (list .exit)) (now (reply .entry)) (now (reply .exit)) s ⌝ }
+    ensures { λ s. ⌜ Stepped (judgeKind (viewIn cells count list len) head (codeOf (partOf (now (message .entry))))) cells count list len reply s ⌝ }
 {
     if head.kind == tapa::RESPONSE {
         let coded = message::response_code(message::data_part(message));
-        return on_response(addresses, opens, count, list, len, head, coded);
+        return on_response(cells, count, list, len, head, coded);
     }
     if ruling::is_add_event(head) {
-        let outcome = ruling::event(addresses, opens, count);
+        let outcome = ruling::event(cells, count);
         return Step { outcome, len };
     }
-    on_command(addresses, opens, count, list, len, head, reply)
+    on_command(cells, count, list, len, head, reply)
 }
 
 // The common checks, and then by type.
 pub fn on_message(
-    addresses: &[u16; 16],
-    opens: &mut [bool; 16],
+    cells: &mut [u32; 16],
     count: usize,
     list: &mut [u64; 48],
     len: usize,
@@ -227,8 +216,8 @@ pub fn on_message(
     reply: &mut [u8],
 ) -> Step
     requires { ⌜ places.Lawful (now list) len ⌝ }
-    requires { ⌜ Columns (now addresses) (now opens) count ⌝ }
-    ensures { λ s. ⌜ Stepping (judgeMessage (heldView (now (addresses .entry)) (now (opens .entry)) count (now (list .entry)) len) (length (now (reply .entry))) (now (message .entry))) (heldView (now (addresses .entry)) (now (opens .entry)) count (now (list .entry)) len) (now (addresses .entry)) (now (opens .exit)) count (now (list .exit)) (now (reply .entry)) (now (reply .exit)) s ⌝ }
+    requires { ⌜ Column (now cells) count ⌝ }
+    ensures { λ s. ⌜ OnMessage cells count list len message reply s ⌝ }
 {
     if reply.len() < 10 {
         return refuse(Refusal::BufferTooSmall, len);
@@ -236,13 +225,13 @@ pub fn on_message(
     match message::read(message) {
         Reading::Refused(refusal) => refuse(refusal, len),
         Reading::Message(head) => {
-            if !table::is_listed(addresses, opens, count, tapa::handler(head.source)) {
+            if !table::is_listed(cells, count, tapa::handler(head.source)) {
                 return refuse(Refusal::NotInTable, len);
             }
             if 7 < head.thread {
                 return refuse(Refusal::ThreadAbove7, len);
             }
-            on_type(addresses, opens, count, list, len, head, message, reply)
+            on_type(cells, count, list, len, head, message, reply)
         }
     }
 }
@@ -251,7 +240,7 @@ pub fn on_message(
 
 pub fn on_give_up(list: &mut [u64; 48], len: usize, thread: u8, reply: &mut [u8]) -> Step
     requires { ⌜ places.Lawful (now list) len ⌝ }
-    ensures { λ s. ⌜ Giving (placesOf (now (list .entry)) len) (length (now (reply .entry))) thread (now (list .exit)) (now (reply .entry)) (now (reply .exit)) s ⌝ }
+    ensures { λ s. ⌜ OnGiveUp list len thread reply s ⌝ }
 {
     if reply.len() < 10 {
         return refuse(Refusal::BufferTooSmall, len);
@@ -286,25 +275,24 @@ pub fn on_give_up(list: &mut [u64; 48], len: usize, thread: u8, reply: &mut [u8]
 // ---- Replaced
 
 pub fn on_replaced(
-    addresses: &[u16; 16],
-    opens: &mut [bool; 16],
+    cells: &mut [u32; 16],
     count: usize,
     list: &mut [u64; 48],
     len: usize,
     address: u16,
 ) -> Step
     requires { ⌜ places.Lawful (now list) len ⌝ }
-    requires { ⌜ Columns (now addresses) (now opens) count ⌝ }
-    ensures { λ s. ⌜ Moving (judgeReplaced (heldView (now (addresses .entry)) (now (opens .entry)) count (now (list .entry)) len) address) (heldView (now (addresses .entry)) (now (opens .entry)) count (now (list .entry)) len) (now (addresses .entry)) (now (opens .exit)) count (now (list .exit)) s ⌝ }
+    requires { ⌜ Column (now cells) count ⌝ }
+    ensures { λ s. ⌜ OnReplaced cells count list len address s ⌝ }
 {
     let handler = tapa::handler(address);
-    if !table::is_listed(addresses, opens, count, handler) {
+    if !table::is_listed(cells, count, handler) {
         return refuse(Refusal::NotInTable, len);
     }
     if places::stands_in(list, len, handler) {
         return refuse(Refusal::StandsInAWait, len);
     }
-    table::set_open(addresses, opens, count, handler, false);
+    table::set_open(cells, count, handler, false);
     let less = places::drop_owed(list, len, handler);
     Step {
         outcome: Outcome::Reset { handler },

@@ -21,7 +21,7 @@ use Rattle.table.proofs.Marks.{set-opened}
 use Rattle.rules.specs.View.{View}
 use Rattle.rules.specs.declared.Outcome.the-variants.{Passed, Answered, Swallowed, Given, Reset}
 use Rattle.rules.specs.Judge.{busy}
-use Rattle.rules.specs.Apply.{place, reopened, applied}
+use Rattle.rules.specs.Apply.{place, answeredRows, applied}
 use Rattle.rules.specs.Conduct.{Conduct}
 use Rattle.rules.proofs.Waits.{open-thread, exact-on}
 use Rattle.rules.proofs.Allowed.{Innermost, Idle}
@@ -102,9 +102,9 @@ reset-closes v h p i = marked-now h false (v .rows) p (i .in-table)
 
 module _ (v : View) (asker asked t : ℕ) (i : Innermost v asker asked t) (p : Proper (v .rows)) (y : listed (handlerOf asked) (v .rows) ≡ true) where
   pub answered-opens : i .it .kind ≡ openHandler → openedAt (handlerOf asked) (applied (Answered asked asker t successful) v .rows) ≡ true
-  unfolding reopened
+  unfolding answeredRows
   answered-opens k = rw (i .found, k, i .its-asked) (marked-now (handlerOf asked) true (v .rows) p y)
 
   pub answered-closes : i .it .kind ≡ closeHandler → openedAt (handlerOf asked) (applied (Answered asked asker t successful) v .rows) ≡ false
-  unfolding reopened
+  unfolding answeredRows
   answered-closes k = rw (i .found, k, i .its-asked) (marked-now (handlerOf asked) false (v .rows) p y)

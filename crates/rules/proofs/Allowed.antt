@@ -1,18 +1,16 @@
 -- What the view was like where a call had an outcome. Every theorem about a step is drawn from here, and not from the text of `judge`.
-use Prim.Native.Nat.{ℕ, _≤_, _<_}
+use Prim.Native.Nat.{ℕ, _≤_}
 use mathlib.Core.Path.{_≡_, refl}
-use mathlib.Core.Bool.{true, false, not, _&&_}
+use mathlib.Core.Bool.{true, false, not}
 use mathlib.Core.List.{List, [], _∷_}
 use mathlib.Core.Option.{Option, none, some}
 use lib.Dec.{eqb, ltb}
-use lib.ListN.{length}
-use borrow.Author.Tests.{not-false, ltb-false, leb-false, eqb-true, eq-eqb}
+use borrow.Author.Tests.{not-false, ltb-false, eqb-true, eq-eqb}
 use Rattle.lists.specs.Lists.{someOf, first}
 use Rattle.lists.proofs.Tests.{split, differ, checks-are}
 use Rattle.lists.proofs.First.{first-yes, first-strong}
-use Rattle.tapa.specs.Address.{categoryOf, handlerOf}
-use Rattle.tapa.specs.Codes.{response, openHandler, eventHandler}
-use Rattle.types.specs.Types.{known}
+use Rattle.tapa.specs.Address.{handlerOf}
+use Rattle.tapa.specs.Codes.{response, eventHandler}
 use Rattle.tapa.specs.declared.Refusal.the-variants.{NotInTable, StandsInAWait}
 use Rattle.message.specs.declared.Head.{Head}
 use Rattle.message.specs.declared.Reading.{Reading}
@@ -26,9 +24,10 @@ use Rattle.places.specs.Places.{openOn, asksExactly, owesExactly, standsIn}
 use Rattle.rules.specs.View.{View}
 use Rattle.rules.specs.declared.Outcome.{Outcome}
 use Rattle.rules.specs.declared.Outcome.the-variants.{Passed, Answered, Swallowed, Event, Turned, Given, Reset, Refused}
-use Rattle.rules.specs.Judge.{ifExactly, answerable, replyTests, late, reply, judgeResponse, isAddEvent, judgeEvent, mayAsk, busy, rules, judgeCommand}
+use Rattle.rules.specs.Judge.{ifExactly, answerable, replyTests, late, reply, judgeResponse, isAddEvent, judgeEvent, judgeCommand}
 use Rattle.rules.specs.Judge.{commonTests, judgeKind, judgeRead, judgeMessage, yields, judgeGiveUp, judgeReplaced, Call, message, giveUp, replaced, judge}
 use Rattle.rules.proofs.Waits.{exact-on, open-thread}
+use Rattle.rules.proofs.Steps.{NoRule, command-is}
 
 -- ---- an outcome, and what was so
 
@@ -36,12 +35,7 @@ use Rattle.rules.proofs.Waits.{exact-on, open-thread}
 pub record Fit (v : View) (asker asked kind t : ℕ) : Type 0 where
   pub asker-listed : listed (handlerOf asker) (v .rows) ≡ true
   pub thread-small : t ≤ 7
-  pub asked-listed : listed (handlerOf asked) (v .rows) ≡ true
-  pub type-known : known (categoryOf asked) kind ≡ true
-  pub open-or-opens : not (openedAt (handlerOf asked) (v .rows)) && not (eqb kind openHandler) ≡ false
-  pub may : mayAsk (v .places) t asker ≡ true
-  pub free : busy (v .places) asker (handlerOf asked) t ≡ false
-  pub room : length (v .places) < 48
+  pub met : NoRule v asker asked kind t
 
 -- the innermost wait of thread t asks exactly this address, for this asker
 pub record Innermost (v : View) (asker asked t : ℕ) : Type 0 where
@@ -113,21 +107,9 @@ response-is v h (Code code) small = reply-is v (answerable (v .places) (h .sourc
 event-is : (v : View) → Allowed v (judgeEvent (v .rows))
 event-is v = split (openedAt eventHandler (v .rows)) (λ p. rw p p) (λ p. rw p tt)
 
-command-is : (v : View) (h : Head) → listed (handlerOf (h .source)) (v .rows) ≡ true → h .thread ≤ 7 → Allowed v (judgeCommand v h)
-unfolding judgeCommand
-command-is v h there small =
-    let back : (listed (handlerOf (h .source)) (v .rows) ≡ true) × (h .thread ≤ 7) = (there, small) in
-    checks-are (Allowed v) (rules v h) (Passed (h .source) (h .destination) (h .kind) (h .thread)) (back, (back, (back, (back, (back, (back, tt))))))
-    (λ a. record {
-      asker-listed = there;
-      thread-small = small;
-      asked-listed = not-false _ (a .0);
-      type-known = not-false _ (a .1 .0);
-      open-or-opens = a .1 .1 .0;
-      may = not-false _ (a .1 .1 .1 .0);
-      free = a .1 .1 .1 .1 .0;
-      room = leb-false 48 (length (v .places)) (a .1 .1 .1 .1 .1 .0);
-    })
+command-allowed : (v : View) (h : Head) → listed (handlerOf (h .source)) (v .rows) ≡ true → h .thread ≤ 7 → Allowed v (judgeCommand v h)
+command-allowed v h there small =
+    command-is v h (Allowed v) (λ code. (there, small)) (λ n. record { asker-listed = there; thread-small = small; met = n })
 
 -- ---- a message
 
@@ -135,7 +117,7 @@ kind-is : (v : View) (h : Head) (code : Coded) → listed (handlerOf (h .source)
 unfolding judgeKind
 kind-is v h code known small =
     split (eqb (h .kind) response) (λ p. rw p (response-is v h code small))
-    (λ p. rw p (split (isAddEvent h) (λ q. rw q (event-is v)) (λ q. rw q (command-is v h known small))))
+    (λ p. rw p (split (isAddEvent h) (λ q. rw q (event-is v)) (λ q. rw q (command-allowed v h known small))))
 
 read-is : (v : View) (r : Reading) (code : Coded) → Allowed v (judgeRead v r code)
 unfolding judgeRead

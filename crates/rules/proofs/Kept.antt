@@ -23,7 +23,7 @@ use Rattle.rules.specs.View.{View, fresh}
 use Rattle.rules.specs.declared.Outcome.{Outcome}
 use Rattle.rules.specs.declared.Outcome.the-variants.{Passed, Answered, Swallowed, Event, Turned, Given, Reset, Refused}
 use Rattle.rules.specs.Judge.{busy, Call, judge}
-use Rattle.rules.specs.Apply.{place, reopened, rowsAfter, applied}
+use Rattle.rules.specs.Apply.{place, answeredRows, rowsAfter, applied}
 use Rattle.rules.specs.Conduct.{Placed, Tree, Chained, Conduct}
 use Rattle.rules.proofs.Waits.{waits-given, waits-swallowed, first-waits, found-waits, tree-waits, waits-tree, chained-waits, waits-chained}
 use Rattle.rules.proofs.Trees.{tree-passed, tree-ended, chained-ended}
@@ -32,17 +32,17 @@ use Rattle.rules.proofs.Allowed.{Allowed, Innermost, allowed}
 -- ---- the rows
 
 -- what holds of the rows, and still with a handler marked open or closed, holds after any outcome
-reopened-by : (P : List Row → Type 0) (rows : List Row) → P rows → ((h : ℕ) (b : Bool) → P (setOpened h b rows))
-    → (o : Option Place) (k : ℕ) → P (reopened o k rows)
-unfolding reopened
-reopened-by P rows p f none k = p
-reopened-by P rows p f (some w) k =
+answered-rows-by : (P : List Row → Type 0) (rows : List Row) → P rows → ((h : ℕ) (b : Bool) → P (setOpened h b rows))
+    → (o : Option Place) (k : ℕ) → P (answeredRows o k rows)
+unfolding answeredRows
+answered-rows-by P rows p f none k = p
+answered-rows-by P rows p f (some w) k =
     split (eqb k successful && eqb (w .kind) openHandler) (λ b. rw b (f (handlerOf (w .asked)) true))
     (λ b. rw b (split (eqb k successful && eqb (w .kind) closeHandler) (λ q. rw q (f (handlerOf (w .asked)) false)) (λ q. rw q p)))
 
 pub rows-by : (P : List Row → Type 0) (v : View) → P (v .rows) → ((h : ℕ) (b : Bool) → P (setOpened h b (v .rows))) → (o : Outcome) → P (rowsAfter o v)
 rows-by P v p f (Passed asker asked kind t) = p
-rows-by P v p f (Answered asked asker t k) = reopened-by P (v .rows) p f (first (asksExactly asked t) (v .places)) k
+rows-by P v p f (Answered asked asker t k) = answered-rows-by P (v .rows) p f (first (asksExactly asked t) (v .places)) k
 rows-by P v p f (Swallowed asked t) = p
 rows-by P v p f Event = p
 rows-by P v p f (Turned asker asked t k) = p
@@ -129,11 +129,11 @@ same-chain l m e c = waits-chained m (rw e (chained-waits l c))
 pub conduct-kept : (v : View) (o : Outcome) → Conduct v → Allowed v o → Conduct (applied o v)
 conduct-kept v (Passed asker asked kind t) c f =
     let p = place asker asked kind t in
-    let e = free-of (v .places) asker (handlerOf asked) t (f .free) in record {
+    let e = free-of (v .places) asker (handlerOf asked) t (f .met .free) in record {
       once = once-passed p (v .places) (e .not-taken) (c .once);
-      trees = λ u. tree-passed u (v .places) p (f .may) (e .not-standing) (e .not-asker) (c .trees u);
-      chained = (λ _. f .may, c .chained);
-      placed = ((f .asked-listed, f .thread-small), c .placed);
+      trees = λ u. tree-passed u (v .places) p (f .met .may) (e .not-standing) (e .not-asker) (c .trees u);
+      chained = (λ _. f .met .may, c .chained);
+      placed = ((f .met .asked-listed, f .thread-small), c .placed);
     }
 conduct-kept v (Answered asked asker t k) c i = record {
   once = λ h u. omega (arith, c .once h u, count-without (onSlot h u) (asksExactly asked t) (v .places));

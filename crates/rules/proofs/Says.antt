@@ -23,12 +23,12 @@ use Rattle.table.specs.Table.{listed, openedAt}
 use Rattle.place.specs.declared.Place.{Place}
 use Rattle.places.specs.Places.{openOn, owesExactly, standsIn}
 use Rattle.rules.specs.View.{View}
-use Rattle.rules.specs.declared.Outcome.{Outcome}
-use Rattle.rules.specs.declared.Outcome.the-variants.{Passed, Answered, Given, Refused}
-use Rattle.rules.specs.Judge.{answerable, replyTests, late, reply, judgeResponse, isAddEvent, rules, judgeCommand, commonTests, judgeKind, judgeRead, judgeMessage}
+use Rattle.rules.specs.declared.Outcome.the-variants.{Answered, Given, Refused}
+use Rattle.rules.specs.Judge.{answerable, replyTests, late, reply, judgeResponse, isAddEvent, judgeCommand, commonTests, judgeKind, judgeRead, judgeMessage}
 use Rattle.rules.specs.Judge.{yields, judgeGiveUp, judgeReplaced, Call, message, giveUp, replaced, judge}
 use Rattle.rules.specs.Says.{Spoken, ReadSays, GivesUp, Replaces, Says}
 use Rattle.rules.proofs.Waits.{open-thread}
+use Rattle.rules.proofs.Steps.{command-is}
 
 -- ---- a message
 module _ (v : View) (h : Head) where
@@ -43,11 +43,7 @@ module _ (v : View) (h : Head) where
           checks-are (Spoken h (Code code)) (replyTests w h) (Answered (h .source) (h .destination) (h .thread) code) (tt, tt) (λ _. (k, refl, refl, refl, refl))
 
   command-says : (code : Coded) → Spoken h code (judgeCommand v h)
-  unfolding judgeCommand
-  command-says code =
-      let back : (h .source ≡ h .source) × (h .destination ≡ h .destination) × (h .thread ≡ h .thread) = (refl, refl, refl) in
-      checks-are (Spoken h code) (rules v h) (Passed (h .source) (h .destination) (h .kind) (h .thread)) (back, (back, (back, (back, (back, (back, tt))))))
-      (λ _. (refl, refl, refl, refl))
+  command-says code = command-is v h (Spoken h code) (λ k. (refl, refl, refl)) (λ n. (refl, refl, refl, refl))
 
   kind-says : (code : Coded) → Spoken h code (judgeKind v h code)
   unfolding judgeKind

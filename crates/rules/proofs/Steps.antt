@@ -6,8 +6,9 @@ use mathlib.Core.Bool.{true, false, and-false}
 use mathlib.Core.List.{List}
 use mathlib.Core.Option.{Option, none, some}
 use lib.ListN.{length}
-use borrow.Author.Tests.{lt-ltb, le-ltb, lt-leb, le-leb, eq-eqb, ne-eqb}
+use borrow.Author.Tests.{lt-ltb, le-ltb, lt-leb, le-leb, leb-false, eq-eqb, ne-eqb, not-false}
 use Rattle.lists.specs.Lists.{checks, someOf, first}
+use Rattle.lists.proofs.Tests.{differ, checks-are}
 use Rattle.tapa.specs.Address.{categoryOf, handlerOf}
 use Rattle.tapa.specs.Codes.{invalidDestination, handlerError, handlerBusy, insufficientResources, mustBeOpened, unsupportedOperation, response, openHandler, eventHandler}
 use Rattle.types.specs.Types.{known}
@@ -24,8 +25,9 @@ use Rattle.table.specs.Table.{listed, openedAt}
 use Rattle.place.specs.declared.Place.{Place}
 use Rattle.places.specs.Places.{openOn, owesExactly, standsIn}
 use Rattle.rules.specs.View.{View}
+use Rattle.rules.specs.declared.Outcome.{Outcome}
 use Rattle.rules.specs.declared.Outcome.the-variants.{Passed, Answered, Swallowed, Event, Given, Reset, Refused}
-use Rattle.rules.specs.Judge.{answerable, replyTests, late, reply, judgeResponse, isAddEvent, judgeEvent, closedTo, mayAsk, busy, turned, judgeCommand, commonTests, judgeKind, judgeRead, judgeMessage, yields, judgeGiveUp, judgeReplaced}
+use Rattle.rules.specs.Judge.{answerable, replyTests, late, reply, judgeResponse, isAddEvent, judgeEvent, closedTo, mayAsk, busy, turned, rules, judgeCommand, commonTests, judgeKind, judgeRead, judgeMessage, yields, judgeGiveUp, judgeReplaced}
 
 -- ---- a message: the common checks
 module _ (v : View) (room : ℕ) (s : List ℕ) where
@@ -124,6 +126,36 @@ module _ (v : View) (h : Head) where
             pub passes : length (v .places) < 48 → judgeCommand v h ≡ Passed (h .source) (h .destination) (h .kind) (h .thread)
             unfolding judgeCommand
             passes f = rw (a, b, c, d, e, lt-leb 48 (length (v .places)) f)
+
+-- none of the rules a to f applies to a command
+pub record NoRule (v : View) (asker asked kind t : ℕ) : Type 0 where
+  pub asked-listed : listed (handlerOf asked) (v .rows) ≡ true
+  pub type-known : known (categoryOf asked) kind ≡ true
+  pub open-or-opens : closedTo (v .rows) (handlerOf asked) kind ≡ false
+  pub may : mayAsk (v .places) t asker ≡ true
+  pub free : busy (v .places) asker (handlerOf asked) t ≡ false
+  pub room : length (v .places) < 48
+
+-- what holds of whatever is turned back, and of what is passed where no rule applies, holds of a command. Nothing else counts the rules.
+pub command-is : (v : View) (h : Head) (P : Outcome → Type 0) → ((code : ℕ) → P (turned h code))
+    → (NoRule v (h .source) (h .destination) (h .kind) (h .thread) → P (Passed (h .source) (h .destination) (h .kind) (h .thread))) → P (judgeCommand v h)
+unfolding judgeCommand
+command-is v h P f g =
+    checks-are P (rules v h) (Passed (h .source) (h .destination) (h .kind) (h .thread)) (f _, (f _, (f _, (f _, (f _, (f _, tt))))))
+    (λ a. g (record {
+      asked-listed = not-false _ (a .0);
+      type-known = not-false _ (a .1 .0);
+      open-or-opens = a .1 .1 .0;
+      may = not-false _ (a .1 .1 .1 .0);
+      free = a .1 .1 .1 .1 .0;
+      room = leb-false 48 (length (v .places)) (a .1 .1 .1 .1 .1 .0);
+    }))
+
+-- a passed command finds room
+pub passed-room : (v : View) (h : Head) → Passed (h .source) (h .destination) (h .kind) (h .thread) ≡ judgeCommand v h → length (v .places) < 48
+passed-room v h e =
+    command-is v h (λ (o : Outcome). Passed (h .source) (h .destination) (h .kind) (h .thread) ≡ o → length (v .places) < 48)
+    (λ code q. differ (cc)) (λ n q. n .room) e
 
 -- ---- a response
 module _ (places : List Place) (h : Head) where

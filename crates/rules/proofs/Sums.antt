@@ -19,7 +19,7 @@ use Rattle.rules.specs.View.{View, fresh}
 use Rattle.rules.specs.declared.Outcome.{Outcome}
 use Rattle.rules.specs.declared.Outcome.the-variants.{Passed, Answered, Given, Turned, Refused}
 use Rattle.rules.specs.Judge.{late, reply, judgeResponse, busy, judgeCommand, judgeKind, judgeRead, judgeMessage, yields, judgeGiveUp, Call, message, giveUp, judge}
-use Rattle.rules.specs.Apply.{place, reopened, applied, written}
+use Rattle.rules.specs.Apply.{place, answeredRows, applied, written}
 use Rattle.rules.proofs.Steps.{message-thread}
 
 abbrev pub row : ℕ → Bool → Row
@@ -68,7 +68,7 @@ pub record Session : Type 0 where
   pub owing : length (owings (one-owed .places)) ≡ 1
 
 pub session : Session
-unfolding readOf partOf codeOf messageOf responseOf categoryOf handlerOf multi own common late reply judgeResponse busy judgeCommand judgeKind judgeRead judgeMessage yields judgeGiveUp reopened
+unfolding readOf partOf codeOf messageOf responseOf categoryOf handlerOf multi own common late reply judgeResponse busy judgeCommand judgeKind judgeRead judgeMessage yields judgeGiveUp answeredRows
 session = record {
   first-line = record { outcome = refl; after = refl };
   second-line = record { outcome = refl; after = refl };

@@ -6,7 +6,7 @@ use mathlib.Core.Option.{Option, none, some}
 use lib.Dec.{eqb, ltb}
 use lib.ListN.{take}
 use Rattle.lists.specs.Lists.{someOf, first}
-use Rattle.lists.proofs.Tests.{split, checks-are}
+use Rattle.lists.proofs.Tests.{split}
 use Rattle.tapa.specs.declared.Refusal.{Refusal}
 use Rattle.message.specs.declared.Head.{Head}
 use Rattle.message.specs.declared.Coded.{Coded}
@@ -16,7 +16,8 @@ use Rattle.places.specs.Places.{openOn, owesExactly}
 use Rattle.rules.specs.View.{View}
 use Rattle.rules.specs.declared.Outcome.{Outcome}
 use Rattle.rules.specs.declared.Outcome.the-variants.{Passed, Answered, Swallowed, Event, Turned, Given, Reset, Refused}
-use Rattle.rules.specs.Judge.{answerable, late, reply, judgeResponse, rules, judgeCommand, yields, judgeGiveUp}
+use Rattle.rules.specs.Judge.{answerable, late, reply, judgeResponse, judgeCommand, yields, judgeGiveUp}
+use Rattle.rules.proofs.Steps.{command-is}
 use Rattle.rules.specs.Apply.{applied, rowsAfter, written, sent}
 
 -- 'Other outcomes of a message leave the reply buffer untouched.'
@@ -75,10 +76,7 @@ swallowed-marks v asked t = refl
 
 -- a command opens and closes nothing
 pub command-rows : (v : View) (h : Head) → v .rows ≡ rowsAfter (judgeCommand v h) v
-unfolding judgeCommand
-command-rows v h =
-    checks-are (λ (o : Outcome). v .rows ≡ rowsAfter o v) (rules v h) (Passed (h .source) (h .destination) (h .kind) (h .thread))
-    (refl, (refl, (refl, (refl, (refl, (refl, tt)))))) (λ a. refl)
+command-rows v h = command-is v h (λ (o : Outcome). v .rows ≡ rowsAfter o v) (λ code. refl) (λ n. refl)
 
 -- neither does a late response
 pub late-rows : (v : View) (h : Head) → v .rows ≡ rowsAfter (late (v .places) h) v

@@ -23,16 +23,16 @@ abbrev pub place : (asker asked kind thread : ℕ) → Place
 place asker asked kind thread = record { asker = asker; asked = asked; kind = kind; thread = thread; owed = false }
 
 -- 'If it was Open Handler or Close Handler and the code is '0000', the handler becomes open or closed.'
-unfoldable pub reopened : Option Place → (code : ℕ) → List Row → List Row
-reopened none k rows = rows
-reopened (some w) k rows =
+unfoldable pub answeredRows : Option Place → (code : ℕ) → List Row → List Row
+answeredRows none k rows = rows
+answeredRows (some w) k rows =
     cond (eqb k successful && eqb (w .kind) openHandler)
     (setOpened (handlerOf (w .asked)) true rows)
     (cond (eqb k successful && eqb (w .kind) closeHandler) (setOpened (handlerOf (w .asked)) false rows) rows)
 
 abbrev pub rowsAfter : Outcome → View → List Row
 rowsAfter (Passed asker asked kind t) v = v .rows
-rowsAfter (Answered asked asker t k) v = reopened (first (asksExactly asked t) (v .places)) k (v .rows)
+rowsAfter (Answered asked asker t k) v = answeredRows (first (asksExactly asked t) (v .places)) k (v .rows)
 rowsAfter (Swallowed asked t) v = v .rows
 rowsAfter Event v = v .rows
 rowsAfter (Turned asker asked t k) v = v .rows

@@ -6,7 +6,7 @@ use mathlib.Core.Bool.{Bool, true, false, _&&_, _||_}
 use mathlib.Core.List.{List, [], _∷_}
 use lib.Dec.{eqb}
 use Rattle.lists.specs.Lists.{count, someOf, All}
-use Rattle.tapa.specs.Address.{categoryOf, handlerOf}
+use Rattle.tapa.specs.Address.{categoryOf, handlerOf, tillDriver}
 use Rattle.table.specs.declared.Row.{Row}
 use Rattle.table.specs.Table.{listed}
 use Rattle.place.specs.declared.Place.{Place}
@@ -32,7 +32,7 @@ Grown r t (p ∷ ps) =
 -- thread t's waits are a tree with one till driver as its root
 pub record Tree (t : ℕ) (places : List Place) : Type 0 where
   pub root : ℕ
-  pub driver : categoryOf root ≡ 1
+  pub driver : categoryOf root ≡ tillDriver
   pub grown : Grown (handlerOf root) t places
 
 -- each wait met rule d over the waits that are older than it: the thread's tree is a chain

@@ -6,7 +6,7 @@ use mathlib.Core.Option.{Option, none, some}
 use lib.Dec.{eqb, leb, ltb}
 use lib.ListN.{length}
 use Rattle.lists.specs.Lists.{checks, someOf, first}
-use Rattle.tapa.specs.Address.{categoryOf, handlerOf}
+use Rattle.tapa.specs.Address.{categoryOf, handlerOf, tillDriver}
 use Rattle.tapa.specs.Codes.{invalidDestination, handlerError, handlerBusy, insufficientResources, mustBeOpened, unsupportedOperation, response, addEvent, openHandler, eventHandler}
 use Rattle.types.specs.Types.{known}
 use Rattle.tapa.specs.declared.Refusal.the-variants.{NotInTable, ThreadAbove7, NoResponseCode, StrayResponse, WrongAsker, BufferTooSmall, EventCannotBeTaken, NothingToGiveUp, StandsInAWait}
@@ -69,7 +69,7 @@ closedTo rows h kind = not (openedAt h rows) && not (eqb kind openHandler)
 
 -- rule d: who may ask over the innermost wait or, 'where the chain is empty', over none
 abbrev pub allows : Option Place → ℕ → Bool
-allows none a = eqb (categoryOf a) 1
+allows none a = eqb (categoryOf a) tillDriver
 allows (some w) a = eqb (handlerOf (w .asked)) (handlerOf a)
 
 abbrev pub mayAsk : List Place → ℕ → ℕ → Bool

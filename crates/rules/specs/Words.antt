@@ -6,7 +6,7 @@ use mathlib.Core.Bool.{Bool, true, false, not, _&&_, _||_}
 use mathlib.Core.List.{List, [], _∷_, map}
 use lib.Dec.{eqb}
 use Rattle.lists.specs.Lists.{count, someOf, keep, All}
-use Rattle.tapa.specs.Address.{categoryOf, handlerOf, multi}
+use Rattle.tapa.specs.Address.{categoryOf, handlerOf, multi, tillDriver}
 use Rattle.table.specs.declared.Row.{Row}
 use Rattle.table.specs.Table.{listed, isMulti}
 use Rattle.place.specs.declared.Place.{Place}
@@ -19,7 +19,7 @@ chainOf t places = keep (openOn t) places
 
 -- d: the asking handler is 'the one the innermost wait asks or, where the chain is empty,' of category 01
 abbrev pub dLetsAsk : (chain : List Place) → (asker : ℕ) → Bool
-dLetsAsk [] a = eqb (categoryOf a) 1
+dLetsAsk [] a = eqb (categoryOf a) tillDriver
 dLetsAsk (w ∷ older) a = eqb (handlerOf (w .asked)) (handlerOf a)
 
 abbrev pub asksOn : ℕ → ℕ → Place → Bool
@@ -49,7 +49,7 @@ askedBy l = map (λ (w : Place). handlerOf (w .asked)) l
 -- one chain, begun by a till driver, with no handler in it twice
 pub record Chain (l : List Place) : Type 0 where
   pub beginner : ℕ
-  pub till-driver : categoryOf beginner ≡ 1
+  pub till-driver : categoryOf beginner ≡ tillDriver
   pub line : Line (handlerOf beginner) l
   pub no-handler-twice : (h : ℕ) → count (λ x. eqb x h) (handlerOf beginner ∷ askedBy l) ≤ 1
 

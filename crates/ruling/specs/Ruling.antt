@@ -1,13 +1,16 @@
 -- What the functions that decide answer. The rules themselves are definitions of `rules`.
 use Prim.Native.Nat.{ℕ}
-use mathlib.Core.Bool.{Bool, cond}
+use mathlib.Core.Bool.{cond}
 use mathlib.Core.List.{List}
 use lib.Dec.{eqb}
+use denote.Ref.{RefT, now}
+use denote.Triple.Both.{Both}
 use Rattle.lists.specs.declared.Found.{Found}
 use Rattle.lists.specs.declared.Found.the-variants.{At, Nothing}
 use Rattle.lists.specs.Lists.{find}
 use Rattle.message.specs.declared.Head.{Head}
 use Rattle.table.specs.Table.{rowsOf}
+use Rattle.place.specs.declared.Place.{Place}
 use Rattle.places.specs.Places.{placeAt, placesOf, openOn}
 use Rattle.rules.specs.View.{View}
 use Rattle.rules.specs.declared.Outcome.{Outcome}
@@ -16,9 +19,27 @@ use Rattle.rules.specs.Judge.{turned}
 use Rattle.ruling.specs.declared.Ruling.{Ruling}
 use Rattle.ruling.specs.declared.Ruling.the-variants.{Back, On}
 
--- the view that the arrays of a state hold
-abbrev pub heldView : List ℕ → List Bool → (count : ℕ) → List ℕ → (len : ℕ) → View
-heldView a o n l k = record { rows = rowsOf a o n; places = placesOf l k }
+-- the view that the arrays of a state hold: the cells of n rows, and the list of k places
+abbrev pub heldView : (cells : List ℕ) → (n : ℕ) → (list : List ℕ) → (k : ℕ) → View
+heldView c n l k = record { rows = rowsOf c n; places = placesOf l k }
+
+-- ---- what is lent, at a call's entry and at its exit
+
+abbrev pub Lent : Type 0
+Lent = Both (RefT (List ℕ)) (RefT (List ℕ))
+
+-- what was lent, and what it is at the exit
+abbrev pub lent : (entry exit : RefT (List ℕ)) → Lent
+lent entry exit = record { entry = entry; exit = exit }
+
+-- what the lent arrays held at the entry
+abbrev pub placesIn : (list : Lent) → (k : ℕ) → List Place
+placesIn list k = placesOf (now (list .entry)) k
+
+abbrev pub viewIn : (cells : Lent) → (n : ℕ) → (list : Lent) → (k : ℕ) → View
+viewIn cells n list k = heldView (now (cells .entry)) n (now (list .entry)) k
+
+-- ---- what is decided
 
 -- the number of the wait that a response from a can answer: the innermost one's, 'if the innermost wait of the thread has exactly this source
 -- as its asked address'

@@ -9,9 +9,9 @@ use tapa::Refusal;
 ghost use mathlib.Core.Path.{_≡_};
 ghost use Prim.Native.Nat.{_≤_};
 ghost use Rattle.table.specs.Table.{rowsOf};
-ghost use Rattle.places.specs.Places.{placesOf, Lawful};
+ghost use Rattle.places.specs.Places.{Lawful};
 ghost use Rattle.rules.specs.Judge.{isAddEvent, judgeEvent, closedTo, mayAsk, busy, judgeCommand};
-ghost use Rattle.ruling.specs.Ruling.{heldView, answerAt, ruled};
+ghost use Rattle.ruling.specs.Ruling.{viewIn, placesIn, answerAt, ruled};
 
 // What the rules a to f say of a command: back with a code, or on.
 pub enum Ruling {
@@ -49,11 +49,11 @@ pub fn is_add_event(head: Head) -> bool
     tapa::handler(head.destination) == tapa::EVENT_HANDLER
 }
 
-pub fn event<'a>(addresses: &'a [u16; 16], opens: &'a [bool; 16], count: usize) -> Outcome
+pub fn event(cells: &[u32; 16], count: usize) -> Outcome
     requires { ⌜ count ≤ 16 ⌝ }
-    ensures { λ r. ⌜ r ≡ judgeEvent (rowsOf (now (addresses .entry)) (now (opens .entry)) count) ⌝ }
+    ensures { λ r. ⌜ r ≡ judgeEvent (rowsOf (now (cells .entry)) count) ⌝ }
 {
-    if table::is_open(addresses, opens, count, tapa::EVENT_HANDLER) {
+    if table::is_open(cells, count, tapa::EVENT_HANDLER) {
         return Outcome::Event;
     }
     Outcome::Refused(Refusal::EventCannotBeTaken)
@@ -62,17 +62,11 @@ pub fn event<'a>(addresses: &'a [u16; 16], opens: &'a [bool; 16], count: usize) 
 // ---- Any other type
 
 // Rule c: whether the handler is closed to a command of this type.
-fn is_closed<'a>(
-    addresses: &'a [u16; 16],
-    opens: &'a [bool; 16],
-    count: usize,
-    handler: u16,
-    kind: u8,
-) -> bool
+fn is_closed(cells: &[u32; 16], count: usize, handler: u16, kind: u8) -> bool
     requires { ⌜ count ≤ 16 ⌝ }
-    ensures { λ r. ⌜ r ≡ closedTo (rowsOf (now (addresses .entry)) (now (opens .entry)) count) handler kind ⌝ }
+    ensures { λ r. ⌜ r ≡ closedTo (rowsOf (now (cells .entry)) count) handler kind ⌝ }
 {
-    if table::is_open(addresses, opens, count, handler) {
+    if table::is_open(cells, count, handler) {
         return false;
     }
     kind != tapa::OPEN_HANDLER
@@ -81,21 +75,21 @@ fn is_closed<'a>(
 // Rule d: whether this source may ask on the thread.
 fn may_ask(list: &[u64; 48], len: usize, thread: u8, source: u16) -> bool
     requires { ⌜ Lawful (now list) len ⌝ }
-    ensures { λ r. ⌜ r ≡ mayAsk (placesOf (now (list .entry)) len) thread source ⌝ }
+    ensures { λ r. ⌜ r ≡ mayAsk (placesIn list len) thread source ⌝ }
 {
     match places::innermost(list, len, thread) {
         Found::At(i) => {
             let wait = places::place_at(list, len, i);
             tapa::handler(wait.asked) == tapa::handler(source)
         }
-        Found::Nothing => tapa::category(source) == 1,
+        Found::Nothing => tapa::category(source) == tapa::TILL_DRIVER,
     }
 }
 
 // Rule e: whether there is no room for a command from `source` to the handler.
 fn is_busy(list: &[u64; 48], len: usize, source: u16, handler: u16, thread: u8) -> bool
     requires { ⌜ Lawful (now list) len ⌝ }
-    ensures { λ r. ⌜ r ≡ busy (placesOf (now (list .entry)) len) source handler thread ⌝ }
+    ensures { λ r. ⌜ r ≡ busy (placesIn list len) source handler thread ⌝ }
 {
     if handler == tapa::handler(source) {
         return true;
@@ -107,26 +101,19 @@ fn is_busy(list: &[u64; 48], len: usize, source: u16, handler: u16, thread: u8) 
 }
 
 // The first of the rules a to f that applies.
-pub fn rule_for<'a>(
-    addresses: &'a [u16; 16],
-    opens: &'a [bool; 16],
-    count: usize,
-    list: &[u64; 48],
-    len: usize,
-    head: Head,
-) -> Ruling
+pub fn rule_for(cells: &[u32; 16], count: usize, list: &[u64; 48], len: usize, head: Head) -> Ruling
     requires { ⌜ Lawful (now list) len ⌝ }
     requires { ⌜ count ≤ 16 ⌝ }
-    ensures { λ r. ⌜ ruled head r ≡ judgeCommand (heldView (now (addresses .entry)) (now (opens .entry)) count (now (list .entry)) len) head ⌝ }
+    ensures { λ r. ⌜ ruled head r ≡ judgeCommand (viewIn cells count list len) head ⌝ }
 {
     let handler = tapa::handler(head.destination);
-    if !table::is_listed(addresses, opens, count, handler) {
+    if !table::is_listed(cells, count, handler) {
         return Ruling::Back(tapa::INVALID_DESTINATION);
     }
     if !types::is_known(tapa::category(head.destination), head.kind) {
         return Ruling::Back(tapa::UNSUPPORTED_OPERATION);
     }
-    if is_closed(addresses, opens, count, handler, head.kind) {
+    if is_closed(cells, count, handler, head.kind) {
         return Ruling::Back(tapa::MUST_BE_OPENED);
     }
     if !may_ask(list, len, head.thread, head.source) {

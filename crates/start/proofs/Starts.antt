@@ -18,7 +18,7 @@ use Rattle.start.specs.Start.{freshOver, startFrom, startWith, startOf}
 pub fresh-lawful : (t : Rows) → Held t → Proper (heldRows t) → Lawful (freshOver t)
 fresh-lawful t h p = record {
   held = points.fresh .law;
-  columns = h;
+  column = h;
   table = p;
   conduct = conduct-fresh (heldRows t);
 }

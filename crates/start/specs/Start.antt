@@ -10,7 +10,7 @@ use Rattle.start.specs.declared.Started.{Started}
 
 -- a router over rows by value
 abbrev pub freshOver : Rows → Router
-freshOver t = record { list = replicate 48 0; len = 0; addresses = t .addresses; opens = t .opens; count = t .count }
+freshOver t = record { list = replicate 48 0; len = 0; cells = t .cells; count = t .count }
 
 -- over no rows: what a refused table leaves
 abbrev pub blank : Router

@@ -22,8 +22,7 @@ pub fn blank() -> Router
     Router {
         list: [0; 48],
         len: 0,
-        addresses: [0; 16],
-        opens: [false; 16],
+        cells: [0; 16],
         count: 0,
     }
 }
@@ -34,13 +33,11 @@ pub fn start_from(set: SetUp) -> Started
 {
     let answer = set.answer;
     let rows = set.rows;
-    let addresses = rows.addresses;
-    let opens = rows.opens;
+    let cells = rows.cells;
     let router = Router {
         list: [0; 48],
         len: 0,
-        addresses,
-        opens,
+        cells,
         count: rows.count,
     };
     Started { answer, router }

@@ -7,7 +7,7 @@ use Rattle.types.specs.Types.{common, own}
 use Rattle.message.specs.Message.{readOf, partOf, codeOf, messageOf, responseOf}
 use Rattle.table.specs.Table.{shaped, judgeTable}
 use Rattle.rules.specs.Judge.{late, reply, judgeResponse, busy, judgeCommand, judgeKind, judgeRead, judgeMessage, yields, judgeGiveUp, judgeReplaced}
-use Rattle.rules.specs.Apply.{reopened}
+use Rattle.rules.specs.Apply.{answeredRows}
 use Rattle.fields.specs.Fields.{fileOf, rowOf, stepOf, fieldBytes}
 use Rattle.text.specs.Text.{ascii, decimalOf}
 use Rattle.lines.specs.Lines.{said}
@@ -30,5 +30,5 @@ pub page-session : prescribed session
     ∷ ascii "4 given 01000001FF030002FFF3\n"
     ∷ ascii "totals 2 1 1 0 1\n"
     ∷ []
-unfolding prescribed fileOf rowOf stepOf shaped judgeTable categoryOf subAddressOf handlerOf multi common own readOf partOf codeOf messageOf responseOf late reply judgeResponse busy judgeCommand judgeKind judgeRead judgeMessage yields judgeGiveUp judgeReplaced reopened decimalOf said
+unfolding prescribed fileOf rowOf stepOf shaped judgeTable categoryOf subAddressOf handlerOf multi common own readOf partOf codeOf messageOf responseOf late reply judgeResponse busy judgeCommand judgeKind judgeRead judgeMessage yields judgeGiveUp judgeReplaced answeredRows decimalOf said
 page-session = refl

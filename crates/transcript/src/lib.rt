@@ -24,7 +24,7 @@ ghost use Rattle.router.specs.Router.{viewOf, Lawful};
 ghost use Rattle.fields.specs.Fields.{message, give-up, replaced};
 ghost use Rattle.lines.specs.Lines.{brokenLine, tableLine, longLine, totalsLine};
 ghost use Rattle.transcript.specs.Prescribed.{tallied, totalsOf};
-ghost use Rattle.transcript.specs.Left.{Sound, Few, blank as blankRouter, closed, wentBy, Wrote, Stepped, Last, Gives, settled as settledAt, openedBy, rowsRun, Begun};
+ghost use Rattle.transcript.specs.Left.{Sound, Few, closed, wentBy, Wrote, Stepped, Last, Gives, settled as settledAt, openedBy, rowsRun, Begun};
 
 // What a session counts of its outcomes.
 pub struct Tally {
@@ -151,25 +151,12 @@ fn on_replaced(s: Session, line: &mut [u8], address: u16, end: usize) -> Turn
 
 // ---- a last line
 
-// A router over no rows: what a session holds that asks no router any more.
-fn blank() -> Router
-    ensures { λ r. ⌜ r ≡ blankRouter ⌝ }
-{
-    Router {
-        list: [0; 48],
-        len: 0,
-        addresses: [0; 16],
-        opens: [false; 16],
-        count: 0,
-    }
-}
-
 // The last line was written.
 fn ended(s: Session, length: usize) -> Turn
     ensures { λ r. ⌜ r ≡ record { length = length; done = false; next = closed s } ⌝ }
 {
     let tally = s.tally;
-    let router = blank();
+    let router = start::blank();
     Turn {
         length,
         done: false,
@@ -280,7 +267,7 @@ fn settled(at: usize, number: usize, pending: Pending) -> Session
     ensures { λ r. ⌜ r ≡ settledAt at number pending ⌝ }
 {
     let tally = no_tally();
-    let router = blank();
+    let router = start::blank();
     Session {
         at,
         number,

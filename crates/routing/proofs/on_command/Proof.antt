@@ -1,7 +1,8 @@
 -- `routing::on_command` meets its contract: what the rules say is done. Assumes nothing.
 use mathlib.Core.Path.{sym, ap, _∙_}
+use Rattle.rules.proofs.Steps.{passed-room}
 use Rattle.ruling.specs.Ruling.{ruled}
-use Rattle.routing.proofs.Commands.{turns, passes, room}
+use Rattle.routing.proofs.Commands.{turns, passes}
 use borrow.Author.Needs.{needs}
 use Rattle.routing.proofs.on_command.Statement.{statement}
 use Rattle.routing.proofs.on_command.Tie as tie
@@ -41,7 +42,7 @@ returns c = let s = c .before .before .before .before .before .before .before .b
 returns-2 : tie.Need-returns-2
 returns-2 c = let s = c .before .before .before .before .before .before .before .before .before in
     let e = ap (ruled (s .args .head)) (sym (c .before .before .before .before .enum-told .given .1)) ∙ c .before .before .before .before .before .before .rule-for .ensures in
-    passes _ _ (s .pre .0) (s .args .head) _ _ _ _ _ _ (c .passed .ensures) (c .before .before .wait-of .ensures) e (room _ (s .args .head) e) (c .before .push .ensures)
+    passes _ _ (s .pre .0) (s .args .head) _ _ _ _ _ _ (c .passed .ensures) (c .before .before .wait-of .ensures) e (passed-room _ (s .args .head) e) (c .before .push .ensures)
 
 pub on-command-spec : {M : Type 1} → statement M
 on-command-spec =

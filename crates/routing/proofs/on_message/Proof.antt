@@ -15,17 +15,17 @@ use Rattle.routing.proofs.on_message.Tie as tie
 
 -- whether the source is listed, as the rules say it
 told : (b : Bool) (c : tie.After-is-listed) → c .is-listed .result ≡ b
-    → listed (handlerOf (c .before .before .before .before .head .given .0 .0 .source)) (rowsOf (c .before .before .before .before .before .before .before .before .before .before .args .addresses .now) (c .before .before .before .before .before .before .before .before .before .before .args .opens .now) (c .before .before .before .before .before .before .before .before .before .before .args .count)) ≡ b
+    → listed (handlerOf (c .before .before .before .before .head .given .0 .0 .source)) (rowsOf (c .before .before .before .before .before .before .before .before .before .before .args .cells .now) (c .before .before .before .before .before .before .before .before .before .before .args .count)) ≡ b
 told b c e =
     let a = c .before .before .before .before .before .before .before .before .before .before .args in
-    ap (λ (h : ℕ). listed h (rowsOf (a .addresses .now) (a .opens .now) (a .count))) (sym (c .before .handler .ensures)) ∙ sym (c .is-listed .ensures) ∙ e
+    ap (λ (h : ℕ). listed h (rowsOf (a .cells .now) (a .count))) (sym (c .before .handler .ensures)) ∙ sym (c .is-listed .ensures) ∙ e
 
 refuse-requires : tie.Need-refuse-requires
 refuse-requires c κs = search needs
 
 returns : tie.Need-returns
 returns c = let s = c .before .before .before .before in
-    unstepped _ _ (s .pre .0) _ _ _ (s .pre .1) _ _ BufferTooSmall _ (c .refuse .ensures) (message-small _ _ _ (c .before .if1 .taken))
+    unstepped _ _ (s .pre .0) _ _ (s .pre .1) _ _ BufferTooSmall _ (c .refuse .ensures) (message-small _ _ _ (c .before .if1 .taken))
 
 read-requires : tie.Need-read-requires
 read-requires c κs = search needs
@@ -50,7 +50,7 @@ refuse-requires-3 c κs = search needs
 
 returns-2 : tie.Need-returns-2
 returns-2 c = let s = c .before .before .before .before .before .before .before .before .before .before .before .before in
-    unstepped _ _ (s .pre .0) _ _ _ (s .pre .1) _ _ NotInTable _ (c .refuse3 .ensures)
+    unstepped _ _ (s .pre .0) _ _ (s .pre .1) _ _ NotInTable _ (c .refuse3 .ensures)
     (message-unlisted _ _ _ (c .before .before .before .before .before .before .before .before .before .if1 .left) _ (c .before .before .before .before .before .before .before .before .read .ensures) _ (c .before .before .before .before .before .before .head .given .1) (told false (c .before .before) (not-true _ (c .before .if2 .taken))))
 
 refuse-requires-4 : tie.Need-refuse-requires-4
@@ -58,7 +58,7 @@ refuse-requires-4 c κs = search needs
 
 returns-3 : tie.Need-returns-3
 returns-3 c = let s = c .before .before .before .before .before .before .before .before .before .before .before .before .before .before in
-    unstepped _ _ (s .pre .0) _ _ _ (s .pre .1) _ _ ThreadAbove7 _ (c .refuse4 .ensures)
+    unstepped _ _ (s .pre .0) _ _ (s .pre .1) _ _ ThreadAbove7 _ (c .refuse4 .ensures)
     (message-thread _ _ _ (c .before .before .before .before .before .before .before .before .before .before .before .if1 .left) _ (c .before .before .before .before .before .before .before .before .before .before .read .ensures) _ (c .before .before .before .before .before .before .before .before .head .given .1) (told true (c .before .before .before .before) (not-false _ (c .before .before .before .if2 .left)))
     (c .before .if3 .taken))
 
@@ -67,14 +67,14 @@ on-type-requires c κs = search needs
 
 returns-4 : tie.Need-returns-4
 returns-4 c = let s = c .before .before .before .before .before .before .before .before in
-    unstepped _ _ (s .pre .0) _ _ _ (s .pre .1) _ _ _ _ (c .refuse2 .ensures)
+    unstepped _ _ (s .pre .0) _ _ (s .pre .1) _ _ _ _ (c .refuse2 .ensures)
     (message-unread _ _ _ (c .before .before .before .before .before .if1 .left) _ (c .before .before .before .before .read .ensures) _ (c .before .before .refusal .given .1))
 
 same-length : tie.Need-same-length
 same-length c = search needs
 
 returns-5 : tie.Need-returns-5
-returns-5 c = step-as _ _ _ _ _ _ _ _ _ _
+returns-5 c = step-as _ _ _ _ _ _ _ _ _
     (message-kind _ _ _ (c .before .before .before .before .before .before .before .before .before .before .before .before .before .before .before .before .if1 .left) _ (c .before .before .before .before .before .before .before .before .before .before .before .before .before .before .before .read .ensures) _ (c .before .before .before .before .before .before .before .before .before .before .before .before .before .head .given .1) (told true (c .before .before .before .before .before .before .before .before .before) (not-false _ (c .before .before .before .before .before .before .before .before .if2 .left)))
     (c .before .before .before .before .before .before .if3 .left)) (c .before .before .on-type .ensures)
 

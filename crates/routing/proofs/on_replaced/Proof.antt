@@ -20,7 +20,7 @@ refuse-requires c κs = search needs
 
 returns : tie.Need-returns
 returns c = let s = c .before .before .before .before .before in
-    unmoved _ _ (s .pre .0) _ _ _ (s .pre .1) _ NotInTable _ (c .refuse .ensures)
+    unmoved _ _ (s .pre .0) _ _ (s .pre .1) _ NotInTable _ (c .refuse .ensures)
     (replaced-unlisted _ _ _ (c .before .before .before .before .handler .ensures) (sym (c .before .before .is-listed .ensures) ∙ not-true _ (c .before .if1 .taken)))
 
 stands-in-requires : tie.Need-stands-in-requires
@@ -31,7 +31,7 @@ refuse-requires-2 c κs = search needs
 
 returns-2 : tie.Need-returns-2
 returns-2 c = let s = c .before .before .before .before .before .before .before .before in
-    unmoved _ _ (s .pre .0) _ _ _ (s .pre .1) _ StandsInAWait _ (c .refuse2 .ensures)
+    unmoved _ _ (s .pre .0) _ _ (s .pre .1) _ StandsInAWait _ (c .refuse2 .ensures)
     (replaced-stands _ _ _ (c .before .before .before .before .before .before .before .handler .ensures) (sym (c .before .before .before .before .before .is-listed .ensures) ∙ not-false _ (c .before .before .before .before .if1 .left))
     (sym (c .before .before .stands-in .ensures) ∙ c .before .if2 .taken))
 
@@ -43,7 +43,7 @@ drop-owed-requires c κs = search needs
 
 returns-3 : tie.Need-returns-3
 returns-3 c = let a = c .before .before .before .before .before .before .before .before .before .before .before .args in
-    resets _ _ _ _ (a .list .now) (a .len) _ _ _ _
+    resets _ _ _ (a .list .now) (a .len) _ _ _ _
     (replaced-reset _ _ _ (c .before .before .before .before .before .before .before .before .before .before .handler .ensures) (sym (c .before .before .before .before .before .before .before .before .is-listed .ensures) ∙ not-false _ (c .before .before .before .before .before .before .before .if1 .left))
     (sym (c .before .before .before .before .before .stands-in .ensures) ∙ c .before .before .before .before .if2 .left)) (c .before .before .set-open .ensures) (c .drop-owed .ensures)
 

@@ -21,7 +21,7 @@ refuse-requires c κs = search needs
 
 returns : tie.Need-returns
 returns c = let s = c .before .before .before in
-    unmoved _ _ (s .pre .0) _ _ _ (s .pre .1) _ NoResponseCode _ (c .refuse .ensures) (response-missing _ _ _ (c .before .enum-told .given .1))
+    unmoved _ _ (s .pre .0) _ _ (s .pre .1) _ NoResponseCode _ (c .refuse .ensures) (response-missing _ _ _ (c .before .enum-told .given .1))
 
 answer-at-requires : tie.Need-answer-at-requires
 answer-at-requires c κs = search needs
@@ -37,7 +37,7 @@ on-late-requires c κs = search needs
 
 returns-2 : tie.Need-returns-2
 returns-2 c = let a = c .before .before .before .before .before .before .before .before .before .args in
-    late-moves _ _ _ (a .list .now) (a .len) _ (a .head) _ _ _
+    late-moves _ _ (a .list .now) (a .len) _ (a .head) _ _ _
     (response-late _ _ _ _ (c .before .before .before .before .before .before .before .coded .given .1)
     (answer-none (a .list .now) (a .len) (a .head .source) (a .head .thread) (sym (c .before .before .before .before .answer-at .ensures) ∙ c .before .before .enum-told2 .given .1)))
     (c .before .before .before .before .before .before .before .before .before .pre .1) (c .on-late .ensures)
@@ -52,7 +52,7 @@ returns-3 : tie.Need-returns-3
 returns-3 c = let s = c .before .before .before .before .before .before .before .before .before .before .before .before .before .before in
     let a = s .args in
     let x = answer-some (a .list .now) (a .len) (a .head .source) (a .head .thread) _ (sym (c .before .before .before .before .before .before .before .before .before .answer-at .ensures) ∙ c .before .before .before .before .before .before .before .at .given .1) in
-    unmoved _ _ (s .pre .0) _ _ _ (s .pre .1) _ WrongAsker _ (c .refuse2 .ensures)
+    unmoved _ _ (s .pre .0) _ _ (s .pre .1) _ WrongAsker _ (c .refuse2 .ensures)
     (response-wrong _ _ _ _ (c .before .before .before .before .before .before .before .before .before .before .before .before .coded .given .1) _ (x .it ∙ ap some (sym (c .before .before .before .before .place-at .ensures))) (c .before .if1 .taken))
 
 open-or-close-requires : tie.Need-open-or-close-requires
@@ -64,7 +64,7 @@ remove-requires c κs = search needs
 returns-4 : tie.Need-returns-4
 returns-4 c = let a = c .before .before .before .before .before .before .before .before .before .before .before .before .before .before .before .before .before .args in
     let x = answer-some (a .list .now) (a .len) (a .head .source) (a .head .thread) _ (sym (c .before .before .before .before .before .before .before .before .before .before .before .before .answer-at .ensures) ∙ c .before .before .before .before .before .before .before .before .before .before .at .given .1) in
-    answers _ _ _ (a .list .now) (a .len) _ _ _ _ _ _ _ _ _
+    answers _ _ (a .list .now) (a .len) _ _ _ _ _ _ _ _ _
     (response-answered _ _ _ _ (c .before .before .before .before .before .before .before .before .before .before .before .before .before .before .before .coded .given .1) _ (x .it ∙ ap some (sym (c .before .before .before .before .before .before .before .place-at .ensures))) (c .before .before .before .before .if1 .left)) x
     (rw (c .before .before .before .before .before .before .before .place-at .ensures) at (c .before .before .open-or-close .ensures)) (c .remove .ensures)
 

@@ -1,11 +1,11 @@
 -- `routing::open_or_close` meets its contract: the code and the type decide, and `set_open` does the rest. Assumes nothing.
-use Rattle.routing.proofs.Responses.{reopens-not, reopens-other, reopens-open, reopens-close}
+use Rattle.routing.proofs.Responses.{opens-not, opens-other, opens, closes}
 use borrow.Author.Needs.{needs}
 use Rattle.routing.proofs.open_or_close.Statement.{statement}
 use Rattle.routing.proofs.open_or_close.Tie as tie
 
 returns : tie.Need-returns
-returns c = reopens-not _ _ _ _ _ (c .before .pre) (c .if1 .taken)
+returns c = opens-not _ _ _ _ (c .before .pre) (c .if1 .taken)
 
 handler-requires : tie.Need-handler-requires
 handler-requires c κs = search needs
@@ -14,7 +14,7 @@ set-open-requires : tie.Need-set-open-requires
 set-open-requires c κs = search needs
 
 returns-2 : tie.Need-returns-2
-returns-2 c = reopens-open _ _ _ _ _ _ _ (c .before .before .before .before .before .if1 .left) (c .before .handler .ensures) (c .before .before .before .if2 .taken) (c .set-open .ensures)
+returns-2 c = opens _ _ _ _ _ _ (c .before .before .before .before .before .if1 .left) (c .before .handler .ensures) (c .before .before .before .if2 .taken) (c .set-open .ensures)
 
 handler-requires-2 : tie.Need-handler-requires-2
 handler-requires-2 c κs = search needs
@@ -23,10 +23,10 @@ set-open-requires-2 : tie.Need-set-open-requires-2
 set-open-requires-2 c κs = search needs
 
 returns-3 : tie.Need-returns-3
-returns-3 c = reopens-close _ _ _ _ _ _ _ (c .before .before .before .before .before .before .before .if1 .left) (c .before .handler2 .ensures) (c .before .before .before .before .before .if2 .left) (c .before .before .before .if3 .taken) (c .set-open2 .ensures)
+returns-3 c = closes _ _ _ _ _ _ (c .before .before .before .before .before .before .before .if1 .left) (c .before .handler2 .ensures) (c .before .before .before .before .before .if2 .left) (c .before .before .before .if3 .taken) (c .set-open2 .ensures)
 
 returns-4 : tie.Need-returns-4
-returns-4 c = reopens-other _ _ _ _ _ (c .before .before .before .before .before .pre) (c .before .before .before .before .if1 .left) (c .before .before .if2 .left) (c .if3 .left)
+returns-4 c = opens-other _ _ _ _ (c .before .before .before .before .before .pre) (c .before .before .before .before .if1 .left) (c .before .before .if2 .left) (c .if3 .left)
 
 pub open-or-close-spec : {M : Type 1} → statement M
 open-or-close-spec =

@@ -16,7 +16,7 @@ use Rattle.ruling.proofs.rule_for.Statement.{statement}
 use Rattle.ruling.proofs.rule_for.Tie as tie
 
 abbrev view : tie.Start → View
-view s = heldView (s .args .addresses .now) (s .args .opens .now) (s .args .count) (s .args .list .now) (s .args .len)
+view s = heldView (s .args .cells .now) (s .args .count) (s .args .list .now) (s .args .len)
 
 -- from the test of each rule, a to e, back to the start
 abbrev at-a : tie.After-is-listed → tie.Start

@@ -1,4 +1,5 @@
 -- `Router::give_up` meets its contract: what is done in place is the next state. Assumes nothing.
+use Rattle.router.specs.Router.{viewOf}
 use Rattle.router.proofs.States.{gives-up}
 use borrow.Author.Needs.{needs}
 use Rattle.router.proofs.Router.give_up.Statement.{statement}
@@ -11,7 +12,9 @@ same-length : tie.Need-same-length
 same-length c = search needs
 
 returns : tie.Need-returns
-returns c = gives-up (c .before .before .before .before .before .before .before .before .before .args .self) (c .before .before .before .before .before .before .before .before .before .pre) _ (c .before .before .before .before .before .before .before .before .before .args .thread) _ _ _ _ (c .before .before .on-give-up .ensures)
+returns c =
+    let s = c .before .before .before .before .before .before .before .before in
+    gives-up (s .args .self) (s .pre) (s .args .thread) _ _ _ _ (c .before .before .on-give-up .ensures (viewOf (s .args .self) .rows))
 
 pub give-up-spec : {M : Type 1} → statement M
 give-up-spec = tie.close (tie.spec on-give-up-requires same-length returns)

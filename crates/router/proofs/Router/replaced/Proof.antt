@@ -9,7 +9,9 @@ on-replaced-requires : tie.Need-on-replaced-requires
 on-replaced-requires c κs = search needs
 
 returns : tie.Need-returns
-returns c = replaces (c .before .before .before .before .before .before .before .args .self) (c .before .before .before .before .before .before .before .pre) 0 (replaced (c .before .before .before .before .before .before .before .args .address)) _ _ _ (c .on-replaced .ensures)
+returns c =
+    let s = c .before .before .before .before .before in
+    replaces (s .args .self) (s .pre) 0 (replaced (s .args .address)) _ _ _ (c .on-replaced .ensures)
 
 pub replaced-spec : {M : Type 1} → statement M
 replaced-spec = tie.close (tie.spec on-replaced-requires returns)

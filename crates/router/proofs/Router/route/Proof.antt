@@ -12,7 +12,9 @@ same-length : tie.Need-same-length
 same-length c = search needs
 
 returns : tie.Need-returns
-returns c = routes (c .before .before .before .before .before .before .before .before .before .before .before .before .args .self) (c .before .before .before .before .before .before .before .before .before .before .before .before .pre) _ (message (c .before .before .before .before .before .before .before .before .before .before .before .before .args .message .now)) _ _ _ _ _ (c .before .before .on-message .ensures)
+returns c =
+    let s = c .before .before .before .before .before .before .before .before .before .before in
+    routes (s .args .self) (s .pre) _ (message (s .args .message .now)) _ _ _ _ _ (c .before .before .on-message .ensures)
 
 pub route-spec : {M : Type 1} → statement M
 route-spec = tie.close (tie.spec on-message-requires same-length returns)
