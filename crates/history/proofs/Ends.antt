@@ -111,19 +111,25 @@ module _ (h : List Entry) (v : View) (c : Conduct v) (k : stood h (sent h) ≡ v
   concerns st o a g m =
       let m′ = met (ends o) (standing h d) m in
       let y = m′ .0 in
-      let s = as-sent (d .command) y (stands-as h d y (m′ .1)) in record {
+      let s = as-sent (d .command) y (stands-as h d y (m′ .1)) in
+      let asker : endsWait o ≡ true → d .command .asker ≡ named o .asker =
+      λ w.
+      let n = there v o a .0 w in
+      let k : y ≡ n .it = only (asksExactly _ _) (v .places) (n .it) y (omega (arith, exact-once v c (named o .asked) (named o .thread))) (n .found) (standing-in y (m′ .1)) (rw (ends-wait o y w) at (m′ .2)) in
+      s .0 ∙ ap (λ (p : Place). p .asker) k ∙ n .its-asker
+      in
+      record {
         its-reply = λ w.
-            let n = there v o a .0 w in
-            let k : y ≡ n .it = only (asksExactly _ _) (v .places) (n .it) y (omega (arith, exact-once v c (named o .asked) (named o .thread))) (n .found) (standing-in y (m′ .1)) (rw (ends-wait o y w) at (m′ .2)) in
             let r = g .reply (rw w) in record {
               head = r .head;
               read = r .read;
-              to-asker = r .to-asker ∙ sym (s .0 ∙ ap (λ (p : Place). p .asker) k ∙ n .its-asker);
+              to-asker = r .to-asker ∙ sym (asker w);
               from-asked = r .from-asked ∙ sym (s .1 ∙ aimed o y (rw w) (m′ .2) .0);
               kind = r .kind;
               on-thread = r .on-thread ∙ sym (s .2 ∙ aimed o y (rw w) (m′ .2) .1);
               with-code = r .with-code;
             };
+        its-asker = asker;
         its-asked = λ e. s .1 ∙ aimed o y e (m′ .2) .0;
         its-thread = λ e. s .2 ∙ aimed o y e (m′ .2) .1;
         its-handler = λ r. ap handlerOf (s .1) ∙ eqb-true (handlerOf (y .asked)) (named o .asked) (and-yes (isOwed y) (asks (named o .asked) y) (rw (ends-reset o y r) at (m′ .2)) .1);

@@ -24,7 +24,7 @@ use Rattle.rules.specs.Judge.{judge}
 use Rattle.rules.specs.Apply.{place, placesAfter}
 use Rattle.rules.specs.Conduct.{Conduct}
 use Rattle.rules.proofs.After.{exact-once}
-use Rattle.history.specs.History.{Step, Entry, entry, viewAfter, history, isPassed, isGiven, named, Sent, starts, sent, ends, lives, livesOn, standing, meets, openIn, owedIn, commands, debts}
+use Rattle.history.specs.History.{Step, Entry, entry, viewAfter, history, isPassed, isGiven, named, Sent, starts, sent, ends, lives, livesOn, standing, meets, openIn, owedIn, asWaits, asOwings}
 use Rattle.history.proofs.Law.{conduct-after}
 
 -- ---- the numbers of the commands
@@ -157,12 +157,12 @@ module _ (h : List Entry) (q : Place → Bool) (f : Sent → Place) where
       go none e ih = ih
       go (some y) e ih = split (q y) (λ b. rw (b, ih, a .0 y e b)) (λ b. rw b ih)
 
-pub waits-told : (rows : List Row) (steps : List Step) → waits (viewAfter rows steps .places) ≡ commands (openIn (history rows steps))
+pub waits-told : (rows : List Row) (steps : List Step) → waits (viewAfter rows steps .places) ≡ asWaits (openIn (history rows steps))
 waits-told rows steps =
     let h = history rows steps in
     ap waits (sym (told rows steps)) ∙ picked h isOpen (λ (c : Sent). c .command) (sent h) (All-map Opened _ (λ c s. open-as h c) (sent h) (sent-open h))
 
-pub owings-told : (rows : List Row) (steps : List Step) → owings (viewAfter rows steps .places) ≡ debts (owedIn (history rows steps))
+pub owings-told : (rows : List Row) (steps : List Step) → owings (viewAfter rows steps .places) ≡ asOwings (owedIn (history rows steps))
 owings-told rows steps =
     let h = history rows steps in
     ap owings (sym (told rows steps))

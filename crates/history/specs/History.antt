@@ -167,11 +167,11 @@ abbrev pub owedIn : List Entry → List Sent
 owedIn h = keep (λ (c : Sent). meets isOwed (standing h c)) (sent h)
 
 -- as places: what is open is a wait, what is owed an owing
-abbrev pub commands : List Sent → List Place
-commands cs = map (λ (c : Sent). c .command) cs
+abbrev pub asWaits : List Sent → List Place
+asWaits cs = map (λ (c : Sent). c .command) cs
 
-abbrev pub debts : List Sent → List Place
-debts cs = map (λ (c : Sent). owing (c .command)) cs
+abbrev pub asOwings : List Sent → List Place
+asOwings cs = map (λ (c : Sent). owing (c .command)) cs
 
 -- the commands whose wait or owing an outcome ends
 abbrev pub ended : List Entry → Outcome → List Sent
@@ -184,7 +184,7 @@ abbrev pub timesEnded : (Outcome → Bool) → List Entry → Sent → ℕ
 timesEnded q [] c = 0
 timesEnded q (e ∷ h) c = one (q (e .outcome) && meets (ends (e .outcome)) (standing h c)) + timesEnded q h c
 
--- (What an answered, given or swallowed outcome ends is exactly one command: `EachEndsOne` of specs/Promise.antt gives this its content.)
+-- (What an answered, given or swallowed outcome ends is exactly one command: `EndsOne` of specs/Promise.antt gives this its content.)
 -- a command is open still, or was answered once, or given up once; one that was given up is owed still, or was swallowed once, or ended by one
 -- accepted replaced call
 pub record Fate (h : List Entry) (c : Sent) : Type 0 where
@@ -214,6 +214,7 @@ pub record Went (e : Entry) : Type 0 where
 pub record Concerns (e : Entry) (c : Sent) : Type 0 where
   pub its-reply : endsWait (e .outcome) ≡ true
       → Reply (e .out) (c .command .asker) (c .command .asked) (c .command .thread) (named (e .outcome) .code)
+  pub its-asker : endsWait (e .outcome) ≡ true → c .command .asker ≡ named (e .outcome) .asker
   pub its-asked : endsOne (e .outcome) ≡ true → c .command .asked ≡ named (e .outcome) .asked
   pub its-thread : endsOne (e .outcome) ≡ true → c .command .thread ≡ named (e .outcome) .thread
   pub its-handler : isReset (e .outcome) ≡ true → handlerOf (c .command .asked) ≡ named (e .outcome) .asked

@@ -14,7 +14,7 @@ use Rattle.rules.specs.Judge.{judge}
 use Rattle.rules.specs.Apply.{applied}
 use Rattle.rules.specs.Says.{Says}
 use Rattle.rules.specs.Words.{Worded, singles, multis, most}
-use Rattle.history.specs.History.{Step, Entry, goesOut, Each, Sent, sent, openIn, owedIn, commands, debts, ended, endsOne, isPassed, isAnswered, isGiven, Fate, Went, Concerns, total}
+use Rattle.history.specs.History.{Step, Entry, goesOut, Each, Sent, sent, openIn, owedIn, asWaits, asOwings, ended, endsOne, isPassed, isAnswered, isGiven, Fate, Went, Concerns, total}
 use Rattle.history.specs.Marks.{Bears}
 
 -- calls that were made one after the other, from a fresh router over these rows, each with its outcome, with what went out, and with the next state's view: what
@@ -41,8 +41,8 @@ pub record Promise (h : List Entry) (v : View) : Type 0 where
   -- the law, in the page's words
   pub law : Worded v
   -- the waits are the open commands, and the owings the owed ones, in order
-  pub opens : waits (v .places) ≡ commands (openIn h)
-  pub owes : owings (v .places) ≡ debts (owedIn h)
+  pub opens : waits (v .places) ≡ asWaits (openIn h)
+  pub owes : owings (v .places) ≡ asOwings (owedIn h)
   -- what became of every passed command
   pub fates : (c : Sent) → In c (sent h) → Fate h c
   pub ends-one : Each EndsOne h
