@@ -27,8 +27,9 @@ use Rattle.start.specs.Start.{startOf}
 use Rattle.start.proofs.Starts.{lent-view, lent-law}
 use Rattle.fields.specs.Fields.{fileOf, rowOf, stepOf, fieldBytes}
 use Rattle.text.specs.Text.{ascii, decimalOf}
-use Rattle.lines.specs.Lines.{said}
-use Rattle.transcript.specs.Prescribed.{prescribed}
+use Rattle.lines.specs.Lines.{wordOf, textOf}
+use Rattle.run.specs.Run.{runOf}
+use Rattle.transcript.specs.Prescribed.{lineWith, prescribed}
 use Rattle.demands.specs.Cheats.{Build, Meets, RefusesAll, OneOutcome, DoesNothing, ten, Echoes, Printing, Prints, MadeUp}
 use Rattle.demands.proofs.Used.{start-fresh}
 
@@ -137,7 +138,7 @@ record Printed : Type 0 where
   pub one-refused : prescribed (input 0) ≡ ascii "1 refused 3\n" ∷ ascii "totals 0 0 0 0 0\n" ∷ []
 
 printed : Printed
-unfolding prescribed fileOf rowOf stepOf shaped judgeTable categoryOf subAddressOf handlerOf multi common own readOf partOf codeOf busy judgeCommand judgeKind judgeRead judgeMessage decimalOf said
+unfolding runOf lineWith fileOf rowOf stepOf shaped judgeTable categoryOf subAddressOf handlerOf multi common own readOf partOf codeOf busy judgeCommand judgeKind judgeRead judgeMessage decimalOf wordOf textOf
 printed = record { one-passed = refl; one-refused = refl }
 
 pub made-up : (p : Printing) → Prints p → MadeUp p → ⊥

@@ -12,7 +12,8 @@ use Rattle.queue.proofs.Once as queue
 use Rattle.events.proofs.Once as events
 use Rattle.cutter.proofs.Once as cutter
 use Rattle.joiner.proofs.Once as joiner
-use Rattle.transcript.proofs.Once as transcript
+use Rattle.run.proofs.Once as run
+use Rattle.pages.proofs.Once as pages
 use Rattle.demands.specs.One.{One, OneResult}
 
 -- an equation leaves one value
@@ -43,6 +44,7 @@ one-result = record {
   join = λ j piece before r t a b. joiner.one-join j piece before a b r t;
   joined-part = joiner.one-joined-part;
   get-next = λ thread before w v a b. joiner.one-get-next thread before a b w v;
-  session-begin = transcript.one-begin;
-  session-next = λ input w before t u a b. transcript.one-next input w before a b t u;
+  session-begin = run.one-begin;
+  session-next = run.one-next;
+  fill-page = λ input w before p q a b. pages.one-fill-page input w before a b p q;
 }

@@ -29,8 +29,11 @@ use Rattle.cutter.specs.Cutting.{PartToCut, HandsOut, Steps, Begins, Firsts}
 use Rattle.joiner.specs.declared.Joiner.{Joiner}
 use Rattle.joiner.specs.declared.Answer.{Answer}
 use Rattle.joiner.specs.Joining.{Joins, PartFor, Asks}
-use Rattle.transcript.specs.declared.Session.{Session}
-use Rattle.transcript.specs.Left as transcript
+use Rattle.run.specs.declared.Cursor.{Cursor}
+use Rattle.run.specs.declared.Session.{Session}
+use Rattle.run.specs.State.{Turns}
+use Rattle.run.specs.Start as run
+use Rattle.pages.specs.Pages.{Paged}
 
 -- one answer is left
 abbrev pub One : {A : Type 0} → (A → Type 0) → Type 0
@@ -89,6 +92,7 @@ pub record OneResult : Type 0 where
   pub join : (j : Joiner) (piece before : List ℕ) → OneWith (λ r after. Joins j piece before after r)
   pub joined-part : (answer : Answer) (buffer : RefT (List ℕ)) → OnePart (PartFor answer buffer)
   pub get-next : (thread : ℕ) (before : List ℕ) → OneWith (λ w after. Asks thread before after w)
-  -- transcript
-  pub session-begin : (input : List ℕ) → One (transcript.Begun input)
-  pub session-next : (input : List ℕ) (w : Session) (before : List ℕ) → OneWith (λ t after. transcript.Gives input w before after t)
+  -- run, pages
+  pub session-begin : (input : List ℕ) → One (run.Begins input)
+  pub session-next : (input : List ℕ) (r : Router) (c : Cursor) → One (Turns input r c)
+  pub fill-page : (input : List ℕ) (w : Session) (before : List ℕ) → OneWith (λ p after. Paged input w before after p)

@@ -1,8 +1,7 @@
 -- What the code finds in a whole field, over plain values: the field's contents are the n bytes from a place a on. Assumes nothing.
 use Prim.Native.Nat.{ℕ, _+_, _≤_, _<_}
-use mathlib.Core.Path.{_≡_, refl, sym, ap, _∙_}
-use mathlib.Core.Bool.{_&&_}
-use mathlib.Core.List.{List, []}
+use mathlib.Core.Path.{_≡_}
+use mathlib.Core.List.{List}
 use native.Mathlib.Omega.{arith}
 use lib.Dec.{eqb}
 use lib.ListN.{length, take, drop, getD, length-drop}
@@ -15,7 +14,7 @@ use Rattle.fields.specs.declared.NextRow.the-variants.{Row, Torn}
 use Rattle.fields.specs.declared.NextStep.the-variants.{Message, GiveUp, Replaced, Broken}
 
 module _ (s : List ℕ) (a n : ℕ) (h : a + n ≤ length s) where
-  long : length (take n (drop a s)) ≡ n
+  pub long : length (take n (drop a s)) ≡ n
   long = length-take-le n (drop a s) (omega (arith, length-drop a s))
 
   byte : (i k : ℕ) → i < n → a + i ≡ k → getD (take n (drop a s)) i 0 ≡ getD s k 0

@@ -1,16 +1,18 @@
 -- What is left from a place on, by the answers of `row_at` and `step_at`; and where the next field starts. Assumes nothing.
 use Prim.Native.Nat.{ℕ, _+_, _-_, _≤_}
-use mathlib.Core.Path.{_≡_, refl, sym, ap, _∙_}
+use mathlib.Core.Path.{_≡_, refl, ap, _∙_}
 use mathlib.Core.Bool.{Bool, _&&_}
-use mathlib.Core.List.{List, [], _∷_}
+use mathlib.Core.List.{List}
 use mathlib.Core.Option.{Option, none, some}
 use native.Mathlib.Omega.{arith}
 use lib.Dec.{eqb}
 use lib.ListN.{length, take, drop}
 use borrow.Table.Steps.{cases}
-use Rattle.fields.specs.Fields.{fileOf, rowOf, stepOf, Step, message, give-up, replaced, Steps, over, broken, then, stepThen, stepsOf, Script, torn, begins, row-then, rowThen, scriptOf}
-use Rattle.fields.specs.Places.{readAt, seen, rowPlaced, rowFrom, rowAt, stepPlaced, stepFrom, stepAt, stepsAt, scriptAt}
+use borrow.Author.Tests.{eqb-true}
+use Rattle.fields.specs.Fields.{fileOf, rowOf, stepOf, Step, message, give-up, replaced, stepThen, stepsOf, rowThen, scriptOf}
+use Rattle.fields.specs.Places.{readAt, seen, rowPlaced, rowFrom, rowAt, stepPlaced, stepFrom, stepAt, stepsAt, scriptAt, scriptBy, stepsBy}
 use Rattle.fields.proofs.Unfold.{unfolds, inside}
+use Rattle.fields.proofs.Contents.{long}
 use Rattle.fields.specs.declared.Read.{Read}
 use Rattle.fields.specs.declared.Read.the-variants.{End, Cut, Field}
 use Rattle.fields.specs.declared.NextRow.{NextRow}
@@ -19,11 +21,6 @@ use Rattle.fields.specs.declared.NextStep.{NextStep}
 use Rattle.fields.specs.declared.NextStep.the-variants.{Message, GiveUp, Replaced, Broken, End as Ended}
 
 -- ---- rows
-
-abbrev pub scriptBy : List ℕ → ℕ → ℕ → NextRow → Script
-scriptBy s n at (Row x o next) = row-then x o (scriptAt s (n + 1) next)
-scriptBy s n at Torn = torn n
-scriptBy s n at Over = begins (stepsAt s n at)
 
 row-by : (s : List ℕ) (n at next : ℕ) (o : Option (ℕ × Bool)) → rowThen n o (scriptAt s (n + 1) next) ≡ scriptBy s n at (rowPlaced next o)
 row-by s n at next none = refl
@@ -44,17 +41,6 @@ unfolding scriptAt
 script-at s n at = ap (scriptOf n) (unfolds s at) ∙ script-in s n at (readAt s at) (unfolds s at)
 
 -- ---- steps
-
--- the bytes of a message, from its start to the next field
-abbrev pub between : List ℕ → ℕ → ℕ → List ℕ
-between s start next = take (next - start) (drop start s)
-
-abbrev pub stepsBy : List ℕ → ℕ → NextStep → Steps
-stepsBy s n (Message start next) = then (message (between s start next)) (stepsAt s (n + 1) next)
-stepsBy s n (GiveUp t next) = then (give-up t) (stepsAt s (n + 1) next)
-stepsBy s n (Replaced x next) = then (replaced x) (stepsAt s (n + 1) next)
-stepsBy s n Broken = broken n
-stepsBy s n Ended = over
 
 -- a message is all of its field's contents
 message-whole : (t : ℕ) (c m : List ℕ) → stepOf t c ≡ some (message m) → m ≡ c
@@ -88,14 +74,23 @@ steps-at s n at = ap (stepsOf n) (unfolds s at) ∙ steps-in s n (readAt s at)
 
 -- ---- where the next field starts
 
+-- a whole row has 6 bytes
 abbrev pub RowInside : List ℕ → ℕ → NextRow → Type 0
-RowInside s at (Row x o next) = (at + 3 ≤ next) × (next ≤ length s)
+RowInside s at (Row x o next) = (at + 6 ≡ next) × (next ≤ length s)
 RowInside s at Torn = Unit {0}
 RowInside s at Over = Unit {0}
 
-placed-row-inside : (s : List ℕ) (at next : ℕ) (o : Option (ℕ × Bool)) → at + 3 ≤ next → next ≤ length s → RowInside s at (rowPlaced next o)
-placed-row-inside s at next none h k = tt
-placed-row-inside s at next (some r) h k = (h, k)
+row-three : (c : List ℕ) (r : ℕ × Bool) → rowOf c ≡ some r → length c ≡ 3
+unfolding rowOf
+row-three c r =
+    cases (eqb (length c) 3) (λ e p. eqb-true (length c) 3 e)
+    (λ e. rw e (λ p. let z : _≡_ {A = ℕ} 0 1 = cc in absurd (omega arith)))
+
+placed-row-inside : (s : List ℕ) (at a n : ℕ) → at + 3 ≡ a → a + n ≤ length s
+    → (o : Option (ℕ × Bool)) → rowOf (take n (drop a s)) ≡ o
+    → RowInside s at (rowPlaced (a + n) o)
+placed-row-inside s at a n h k none e = tt
+placed-row-inside s at a n h k (some r) e = (omega (arith, row-three (take n (drop a s)) r e, long s a n k), k)
 
 row-inside-in : (s : List ℕ) (at : ℕ) (r : Read) → readAt s at ≡ r → RowInside s at (rowFrom s r)
 row-inside-in s at End e = tt
@@ -103,7 +98,7 @@ row-inside-in s at (Cut t) e = cases (eqb t 1) (λ b. rw b tt) (λ b. rw b tt)
 row-inside-in s at (Field t a n) e =
     let w = inside s at t a n e in
     cases (eqb t 1)
-    (λ b. rw b (placed-row-inside s at (a + n) (rowOf (take n (drop a s))) (omega arith) (w .1)))
+    (λ b. rw b (placed-row-inside s at a n (w .0) (w .1) (rowOf (take n (drop a s))) refl))
     (λ b. rw b tt)
 
 pub row-inside : (s : List ℕ) (at : ℕ) → RowInside s at (rowAt s at)

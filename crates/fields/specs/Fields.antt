@@ -96,8 +96,3 @@ abbrev pub brokenStep : Steps → Option ℕ
 brokenStep over = none
 brokenStep (broken n) = some n
 brokenStep (then st m) = brokenStep m
-
-abbrev pub firstBroken : Script → Option ℕ
-firstBroken (torn n) = some n
-firstBroken (begins m) = brokenStep m
-firstBroken (row-then a o m) = firstBroken m

@@ -1,5 +1,5 @@
 -- The same file place by place: what stands at a place, and what is left from there on.
-use Prim.Native.Nat.{ℕ, _+_}
+use Prim.Native.Nat.{ℕ, _+_, _-_}
 use mathlib.Core.Bool.{Bool, cond}
 use mathlib.Core.List.{List, [], _∷_}
 use mathlib.Core.Option.{Option, none, some}
@@ -70,3 +70,21 @@ stepsAt s n at = stepsOf n (fileOf (drop at s))
 
 unfoldable pub scriptAt : List ℕ → ℕ → ℕ → Script
 scriptAt s n at = scriptOf n (fileOf (drop at s))
+
+-- ---- the same, by what `row_at` and `step_at` answer there
+
+abbrev pub scriptBy : List ℕ → ℕ → ℕ → NextRow → Script
+scriptBy s n at (Row x o next) = row-then x o (scriptAt s (n + 1) next)
+scriptBy s n at Torn = torn n
+scriptBy s n at Over = begins (stepsAt s n at)
+
+-- the bytes of a message, from its start to the next field
+abbrev pub between : List ℕ → ℕ → ℕ → List ℕ
+between s start next = take (next - start) (drop start s)
+
+abbrev pub stepsBy : List ℕ → ℕ → NextStep → Steps
+stepsBy s n (Message start next) = then (message (between s start next)) (stepsAt s (n + 1) next)
+stepsBy s n (GiveUp t next) = then (give-up t) (stepsAt s (n + 1) next)
+stepsBy s n (Replaced x next) = then (replaced x) (stepsAt s (n + 1) next)
+stepsBy s n Broken = broken n
+stepsBy s n Ended = over

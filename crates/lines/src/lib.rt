@@ -1,23 +1,16 @@
 // Lines: the text of each line that the session program prints, with its LF.
 //
-// Each function writes one line at the start of a lent buffer and answers its length. The contracts
-// are the equations of crate `text`, so every byte of the buffer is fixed, also where it is too small.
+// Each function writes one line into a lent buffer from a place on, and answers the place after it.
+// The contracts are the equations of crate `text`, so every byte of the buffer is fixed, also where
+// it is too small. What a step's line says is what the rules say of its outcome, as text.
 // No line has more than 64 bytes: proofs/Short.antt.
 use rules::Outcome;
 use tapa::Refusal;
 ghost use mathlib.Core.Path.{_≡_};
 ghost use mathlib.Core.List.{_++_};
 ghost use Rattle.text.specs.Text.{pen, puts, ascii, decimalOf, hexesOf, wordHexOf};
-ghost use Rattle.lines.specs.Lines.{said, stepLine, totalsLine, brokenLine, tableLine, longLine};
-
-// What the last line of a session counts.
-pub struct Totals {
-    pub accepted: usize,
-    pub answered: usize,
-    pub given: usize,
-    pub waiting: usize,
-    pub owing: usize,
-}
+ghost use Rattle.rules.specs.Said.{saidOutcome};
+ghost use Rattle.lines.specs.Lines.{textOf, stepLine, totalsLine, brokenLine, tableLine, longLine};
 
 // ---- parts of a line
 
@@ -47,7 +40,7 @@ fn put_reply(line: &mut [u8], at: usize, word: &[u8], reply: &[u8; 10]) -> usize
 
 // What came of a step.
 fn put_said(line: &mut [u8], at: usize, outcome: Outcome, reply: &[u8; 10]) -> usize
-    ensures { λ r. ⌜ pen (now (line .exit)) r ≡ puts (pen (now (line .entry)) at) (said outcome (now (reply .entry))) ⌝ }
+    ensures { λ r. ⌜ pen (now (line .exit)) r ≡ puts (pen (now (line .entry)) at) (textOf (saidOutcome outcome) (now (reply .entry))) ⌝ }
 {
     match outcome {
         Outcome::Passed {
@@ -91,45 +84,59 @@ fn put_said(line: &mut [u8], at: usize, outcome: Outcome, reply: &[u8; 10]) -> u
 // ---- lines
 
 // The line of a step: its number and what came of it.
-pub fn step_line(line: &mut [u8], number: usize, outcome: Outcome, reply: &[u8; 10]) -> usize
-    ensures { λ r. ⌜ pen (now (line .exit)) r ≡ puts (pen (now (line .entry)) 0) (stepLine number outcome (now (reply .entry))) ⌝ }
+pub fn step_line(
+    line: &mut [u8],
+    at: usize,
+    number: usize,
+    outcome: Outcome,
+    reply: &[u8; 10],
+) -> usize
+    ensures { λ r. ⌜ pen (now (line .exit)) r ≡ puts (pen (now (line .entry)) at) (stepLine number (saidOutcome outcome) (now (reply .entry))) ⌝ }
 {
-    let a = text::put_decimal(line, 0, number);
+    let a = text::put_decimal(line, at, number);
     let b = put_said(line, a, outcome, reply);
     text::put(line, b, b'\n')
 }
 
 // The last line of a session that has no broken field.
-pub fn totals_line(line: &mut [u8], totals: Totals) -> usize
-    ensures { λ r. ⌜ pen (now (line .exit)) r ≡ puts (pen (now (line .entry)) 0) (totalsLine totals) ⌝ }
+pub fn totals_line(
+    line: &mut [u8],
+    at: usize,
+    accepted: usize,
+    answered: usize,
+    given: usize,
+    waiting: usize,
+    owing: usize,
+) -> usize
+    ensures { λ r. ⌜ pen (now (line .exit)) r ≡ puts (pen (now (line .entry)) at) (totalsLine accepted answered given waiting owing) ⌝ }
 {
-    let a = put_number(line, 0, b"totals ", totals.accepted);
-    let b = put_number(line, a, b" ", totals.answered);
-    let c = put_number(line, b, b" ", totals.given);
-    let d = put_number(line, c, b" ", totals.waiting);
-    let e = put_number(line, d, b" ", totals.owing);
+    let a = put_number(line, at, b"totals ", accepted);
+    let b = put_number(line, a, b" ", answered);
+    let c = put_number(line, b, b" ", given);
+    let d = put_number(line, c, b" ", waiting);
+    let e = put_number(line, d, b" ", owing);
     text::put(line, e, b'\n')
 }
 
 // The line of a broken field, with the field's number.
-pub fn broken_line(line: &mut [u8], number: usize) -> usize
-    ensures { λ r. ⌜ pen (now (line .exit)) r ≡ puts (pen (now (line .entry)) 0) (brokenLine number) ⌝ }
+pub fn broken_line(line: &mut [u8], at: usize, number: usize) -> usize
+    ensures { λ r. ⌜ pen (now (line .exit)) r ≡ puts (pen (now (line .entry)) at) (brokenLine number) ⌝ }
 {
-    let a = put_number(line, 0, b"broken ", number);
+    let a = put_number(line, at, b"broken ", number);
     text::put(line, a, b'\n')
 }
 
 // The only line where the table is refused.
-pub fn table_line(line: &mut [u8], refusal: Refusal) -> usize
-    ensures { λ r. ⌜ pen (now (line .exit)) r ≡ puts (pen (now (line .entry)) 0) (tableLine refusal) ⌝ }
+pub fn table_line(line: &mut [u8], at: usize, refusal: Refusal) -> usize
+    ensures { λ r. ⌜ pen (now (line .exit)) r ≡ puts (pen (now (line .entry)) at) (tableLine refusal) ⌝ }
 {
-    let a = put_number(line, 0, b"table refused ", tapa::number(refusal) as usize);
+    let a = put_number(line, at, b"table refused ", tapa::number(refusal) as usize);
     text::put(line, a, b'\n')
 }
 
 // The only line of an input that is too long.
-pub fn long_line(line: &mut [u8]) -> usize
-    ensures { λ r. ⌜ pen (now (line .exit)) r ≡ puts (pen (now (line .entry)) 0) longLine ⌝ }
+pub fn long_line(line: &mut [u8], at: usize) -> usize
+    ensures { λ r. ⌜ pen (now (line .exit)) r ≡ puts (pen (now (line .entry)) at) longLine ⌝ }
 {
-    text::put_all(line, 0, b"too long\n")
+    text::put_all(line, at, b"too long\n")
 }

@@ -1,54 +1,16 @@
 // The printer: the lines of session files on standard output.
 //
 // Lines are gathered in a page of 65,536 bytes, and each page is written whole. No contract can say
-// what was read or written; `fill_page` is the last word that is proved: the pages, one after the
-// other, are the lines that the input prescribes.
-use transcript::Session;
-ghost use Prim.Native.Nat.{_≤_};
-ghost use lib.ListN.{length};
-ghost use Rattle.transcript.specs.Left.{Sound};
-ghost use Rattle.printer.specs.Pages.{Paged};
-
-// How many bytes of a page are used, and whether it was full before the lines were over.
-struct Page {
-    pub used: usize,
-    pub more: bool,
-    pub next: Session,
-}
-
-// Fills a page with whole lines, while there is room for the longest.
-fn fill_page(session: Session, input: &[u8], page: &mut [u8]) -> Page
-    requires { ⌜ Sound (now input) session ⌝ }
-    requires { ⌜ 64 ≤ length (now page) ⌝ }
-    ensures { λ r. ⌜ Paged (now (input .entry)) session (now (page .exit)) r ⌝ }
-{
-    let mut next = session;
-    let mut used = 0;
-    while 64 <= page.len() - used {
-        let turn = next.next(input, &mut page[used..]);
-        next = turn.next;
-        if turn.done {
-            return Page {
-                used,
-                more: false,
-                next,
-            };
-        }
-        used += turn.length;
-    }
-    Page {
-        used,
-        more: true,
-        next,
-    }
-}
+// what was read or written; the last word that is proved is that of crate `pages`: the pages of a
+// session, from the first to the last, are the text that its input prescribes. `show` writes each of
+// them once, in order.
 
 // Prints the lines of one input; false where they cannot be written.
 fn show(program: &[u8], input: &[u8]) -> bool {
     let mut page = io::large_buffer();
-    let mut session = transcript::begin(input);
+    let mut session = run::begin(input);
     loop {
-        let filled = fill_page(session, input, &mut page);
+        let filled = pages::fill_page(session, input, &mut page);
         let used = filled.used;
         if !inputs::write(program, &page[..used]) {
             return false;

@@ -5,7 +5,7 @@ use mathlib.Core.List.{List, [], _∷_, _++_, append-nil, append-assoc}
 use native.Mathlib.Omega.{arith}
 use native.Mathlib.Numerals.{add-one}
 use lib.Dec.{ltb}
-use lib.ListN.{length, take, drop, getD, length-append, length-set}
+use lib.ListN.{length, take, drop, getD, set, length-append, length-set}
 use lib.Seq.{take-suc, append-snoc, set-append-seam, take-all}
 use borrow.Table.Steps.{cases}
 use borrow.Author.Tests.{lt-ltb, le-ltb, ltb-true, ltb-false}
@@ -91,6 +91,17 @@ fit d (y ∷ r) (b ∷ t) h =
 
 pub puts-fit : (l t : List ℕ) → length t ≤ length l → puts (pen l 0) t ≡ pen (t ++ drop (length t) l) (length t)
 puts-fit l t h = fit [] l t h ∙ same-pen refl (omega arith)
+
+-- the place after what fits
+pushes : (l : List ℕ) (a b : ℕ) → a < length l → pushed (pen l a) b ≡ pen (set l a b) (a + 1)
+pushes l a b h = rw (lt-ltb a (length l) h)
+
+pub puts-at : (t l : List ℕ) (a : ℕ) → a + length t ≤ length l → puts (pen l a) t .at ≡ a + length t
+unfolding puts
+puts-at [] l a h = omega arith
+puts-at (b ∷ t) l a h =
+    let e : puts (pen (set l a b) (a + 1)) t .at ≡ a + 1 + length t = puts-at t (set l a b) (a + 1) (omega (arith, length-set l a b)) in
+    ap (λ (p : Pen). puts p t .at) (pushes l a b (omega arith)) ∙ (e ∙ omega arith)
 
 -- a buffer keeps its length
 pub puts-length : (p : Pen) (t : List ℕ) → length (puts p t .bytes) ≡ length (p .bytes)

@@ -2,29 +2,29 @@
 use Prim.Native.Nat.{ℕ, zero, suc, _+_, _/_, _%_, _≤_}
 use mathlib.Core.Path.{_≡_, refl, ap, sym, _∙_}
 use mathlib.Core.Bool.{false}
-use mathlib.Core.List.{List, [], _∷_, _++_, append-assoc}
+use mathlib.Core.List.{List, [], _∷_, _++_, map, append-assoc}
 use native.Mathlib.Omega.{arith}
 use lib.Dec.{ltb}
 use lib.ListN.{length}
 use borrow.Author.Tests.{le-ltb}
+use borrow.Table.Steps.{cases}
 use Rattle.lists.specs.Lists.{someOf, All}
-use Rattle.lists.proofs.Tests.{split, or-no}
-use Rattle.tapa.specs.declared.Refusal.{Refusal}
+use Rattle.lists.proofs.Tests.{or-no, checks-are}
 use Rattle.tapa.specs.Refusals.{numberOf}
+use Rattle.tapa.specs.Said.{Said, refused, says, Word}
 use Rattle.table.specs.declared.Row.{Row}
 use Rattle.table.specs.declared.Checked.{Checked}
-use Rattle.table.specs.declared.Checked.the-variants.{Accepted, Refused}
+use Rattle.table.specs.declared.Checked.the-variants.{Accepted, Refused as RefusedTable}
 use Rattle.table.specs.Table.{judgeTable}
-use Rattle.rules.specs.View.{View, fresh}
-use Rattle.rules.specs.Apply.{applied}
-use Rattle.rules.specs.declared.Outcome.{Outcome}
-use Rattle.rules.specs.declared.Outcome.the-variants.{Passed, Answered, Swallowed, Event, Turned, Given, Reset, Refused as RefusedStep}
+use Rattle.rules.specs.Said.{saidOutcome}
 use Rattle.fields.specs.Fields.{Steps, over, broken, then, Script, torn, begins, row-then, scriptOf, fileOf}
+use Rattle.history.specs.History as history
 use Rattle.text.specs.Text.{ascii, digitOf, hexOf, hexesOf, wordHexOf, decimals, decimalOf}
-use Rattle.lines.specs.declared.Totals.{Totals}
-use Rattle.lines.specs.Lines.{lf, said, stepLine, counted, totalsLine, brokenLine, tableLine}
-use Rattle.transcript.specs.declared.Tally.{Tally}
-use Rattle.transcript.specs.Prescribed.{replyOf, outcomeOf, noTally, tallied, totalsOf, stepLines, checkedLines, scriptLines, prescribed}
+use Rattle.lines.specs.Lines.{lf, words, wordOf, valuesOf, textOf, counted, totalsLine}
+use Rattle.run.specs.declared.Item.{Item}
+use Rattle.run.specs.declared.Item.the-variants.{Came, Over, Broken, Refused, TooLong, Nothing}
+use Rattle.run.specs.Run.{called, replyIn, itemsOf, checkedItems, scriptItems, runOf}
+use Rattle.transcript.specs.Prescribed.{lineWith, lineOf, prescribed}
 
 -- no byte below 32
 abbrev pub Plain : List ℕ → Type 0
@@ -47,7 +47,7 @@ plain-one : (b : ℕ) → 32 ≤ b → Plain (b ∷ [])
 plain-one b h = rw (le-ltb b 32 h)
 
 plain-digit : (n : ℕ) → Plain (digitOf n ∷ [])
-plain-digit n = split (ltb n 10) (λ e. rw e (plain-one (48 + n) (omega arith))) (λ e. rw e (plain-one (55 + n) (omega arith)))
+plain-digit n = cases (ltb n 10) (λ e. rw e (plain-one (48 + n) (omega arith))) (λ e. rw e (plain-one (55 + n) (omega arith)))
 
 plain-hex : (b : ℕ) → Plain (hexOf b)
 plain-hex b = plain-append (digitOf (b / 16) ∷ []) (digitOf (b % 16) ∷ []) (plain-digit (b / 16)) (plain-digit (b % 16))
@@ -62,7 +62,7 @@ plain-hexes (b ∷ l) = plain-append (hexOf b) (hexesOf l) (plain-hex b) (plain-
 plain-decimals : (f n : ℕ) → Plain (decimals f n)
 plain-decimals zero n = refl
 plain-decimals (suc f) n =
-    split (ltb n 10) (λ e. rw e (plain-one (48 + n % 10) (omega arith)))
+    cases (ltb n 10) (λ e. rw e (plain-one (48 + n % 10) (omega arith)))
     (λ e. rw e (plain-append (decimals f (n / 10)) ((48 + n % 10) ∷ []) (plain-decimals f (n / 10)) (plain-one (48 + n % 10) (omega arith))))
 
 plain-decimal : (n : ℕ) → Plain (decimalOf n)
@@ -72,18 +72,20 @@ plain-decimal n = plain-decimals (suc n) n
 plain-counted : (word : List ℕ) (n : ℕ) → Plain word → Plain (counted word n)
 plain-counted word n p = plain-append word (decimalOf n) p (plain-decimal n)
 
-plain-said : (o : Outcome) (reply : List ℕ) → Plain (said o reply)
-unfolding said
-plain-said (Passed asker asked kind t) reply =
-    plain-append (ascii " passed ") (wordHexOf asked) refl (plain-word asked)
-plain-said (Answered asked asker t k) reply =
-    plain-append (ascii " answered ") (wordHexOf asker) refl (plain-word asker)
-plain-said (Turned asker asked t k) reply = plain-append (ascii " turned ") (hexesOf reply) refl (plain-hexes reply)
-plain-said (Given asker asked t) reply = plain-append (ascii " given ") (hexesOf reply) refl (plain-hexes reply)
-plain-said (RefusedStep r) reply = plain-counted (ascii " refused ") (numberOf r) refl
-plain-said (Swallowed asked t) reply = refl
-plain-said Event reply = refl
-plain-said (Reset h) reply = refl
+plain-values : (values reply : List ℕ) → Plain (valuesOf values reply)
+plain-values [] reply = refl
+plain-values (a ∷ []) reply = plain-append (ascii " ") (wordHexOf a) refl (plain-word a)
+plain-values (a ∷ b ∷ l) reply = plain-append (ascii " ") (hexesOf reply) refl (plain-hexes reply)
+
+plain-word-of : (w : Word) → Plain (wordOf w)
+unfolding wordOf
+plain-word-of w = checks-are Plain (words w) [] (refl, (refl, (refl, (refl, (refl, (refl, (refl, tt))))))) (λ _. refl)
+
+plain-text : (x : Said) (reply : List ℕ) → Plain (textOf x reply)
+unfolding textOf
+plain-text (refused n) reply = plain-counted (ascii " refused ") n refl
+plain-text (says w values) reply =
+    plain-append (ascii " ") (wordOf w ++ valuesOf values reply) refl (plain-append (wordOf w) (valuesOf values reply) (plain-word-of w) (plain-values values reply))
 
 -- ---- lines
 
@@ -98,50 +100,56 @@ before a l p h = record {
   plain = plain-append a (h .front) p (h .plain);
 }
 
-step-ends : (k : ℕ) (o : Outcome) (reply : List ℕ) → Line (stepLine k o reply)
-step-ends k o reply = before (decimalOf k) (said o reply ++ lf) (plain-decimal k) (before (said o reply) lf (plain-said o reply) the-end)
-
 -- a word and a number before a line
 number-before : (word : List ℕ) (n : ℕ) (l : List ℕ) → Plain word → Line l → Line (counted word n ++ l)
 number-before word n l p h = before (counted word n) l (plain-counted word n p) h
 
-broken-ends : (n : ℕ) → Line (brokenLine n)
-broken-ends n = number-before (ascii "broken ") n lf refl the-end
-
-table-ends : (r : Refusal) → Line (tableLine r)
-table-ends r = number-before (ascii "table refused ") (numberOf r) lf refl the-end
-
-totals-ends : (t : Totals) → Line (totalsLine t)
-totals-ends t =
+totals-ends : (v w x y z : ℕ) → Line (totalsLine v w x y z)
+totals-ends v w x y z =
     let space : List ℕ = ascii " " in
-    let a = number-before space (t .owing) lf refl the-end in
-    let b = number-before space (t .waiting) (counted space (t .owing) ++ lf) refl a in
-    let c = number-before space (t .given) (counted space (t .waiting) ++ (counted space (t .owing) ++ lf)) refl b in
-    let d = number-before space (t .answered) (counted space (t .given) ++ (counted space (t .waiting) ++ (counted space (t .owing) ++ lf))) refl c in
-    number-before (ascii "totals ") (t .accepted)
-    (counted space (t .answered) ++ (counted space (t .given) ++ (counted space (t .waiting) ++ (counted space (t .owing) ++ lf)))) refl d
+    let a = number-before space z lf refl the-end in
+    let b = number-before space y (counted space z ++ lf) refl a in
+    let c = number-before space x (counted space y ++ (counted space z ++ lf)) refl b in
+    let d = number-before space w (counted space x ++ (counted space y ++ (counted space z ++ lf))) refl c in
+    number-before (ascii "totals ") v (counted space w ++ (counted space x ++ (counted space y ++ (counted space z ++ lf)))) refl d
+
+-- an item that has a line
+abbrev Said-something : Item → Type 0
+Said-something (Came k o) = Unit {0}
+Said-something (Over t) = Unit {0}
+Said-something (Broken n) = Unit {0}
+Said-something (Refused r) = Unit {0}
+Said-something TooLong = Unit {0}
+Said-something Nothing = ⊥
+
+item-ends : (i : Item) → Said-something i → Line (lineOf i)
+unfolding lineWith
+item-ends (Came k o) h =
+    let t = textOf (saidOutcome o) (replyIn (Came k o)) in
+    before (decimalOf k) (t ++ lf) (plain-decimal k) (before t lf (plain-text (saidOutcome o) (replyIn (Came k o))) the-end)
+item-ends (Over t) h = totals-ends (t .accepted) (t .answered) (t .given) (t .waiting) (t .owing)
+item-ends (Broken n) h = number-before (ascii "broken ") n lf refl the-end
+item-ends (Refused r) h = number-before (ascii "table refused ") (numberOf r) lf refl the-end
+item-ends TooLong h = record { front = ascii "too long"; is = refl; plain = refl }
+item-ends Nothing h = absurd h
 
 -- ---- all lines
 
-steps-end : (v : View) (n : Tally) (k : ℕ) (m : Steps) → All Line (stepLines v n k m)
-steps-end v n k over = (totals-ends (totalsOf n v), tt)
-steps-end v n k (broken b) = (broken-ends b, tt)
-steps-end v n k (then st m) =
-    let o = outcomeOf v st in
-    (step-ends k o (replyOf o), steps-end (applied o v) (tallied o n) (k + 1) m)
+steps-end : (rows : List Row) (past : List history.Step) (k : ℕ) (m : Steps) → All Line (map lineOf (itemsOf rows past k m))
+steps-end rows past k over = (item-ends (Over _) tt, tt)
+steps-end rows past k (broken b) = (item-ends (Broken b) tt, tt)
+steps-end rows past k (then st m) = (item-ends (Came k _) tt, steps-end rows (called st ∷ past) (k + 1) m)
 
-checked-end : (c : Checked) (rows : List Row) (m : Steps) → All Line (checkedLines c rows m)
-checked-end Accepted rows m = steps-end (fresh rows) noTally 1 m
-checked-end (Refused r) rows m = (table-ends r, tt)
+checked-end : (c : Checked) (rows : List Row) (m : Steps) → All Line (map lineOf (checkedItems c rows m))
+checked-end Accepted rows m = steps-end rows [] 1 m
+checked-end (RefusedTable r) rows m = (item-ends (Refused r) tt, tt)
 
-script-ends : (rows : List Row) (m : Script) → All Line (scriptLines rows m)
-script-ends rows (torn n) = (broken-ends n, tt)
+script-ends : (rows : List Row) (m : Script) → All Line (map lineOf (scriptItems rows m))
+script-ends rows (torn n) = (item-ends (Broken n) tt, tt)
 script-ends rows (begins m) = checked-end (judgeTable rows) rows m
 script-ends rows (row-then a o m) = script-ends (record { address = a; opened = o } ∷ rows) m
 
 pub every-line : (s : List ℕ) → All Line (prescribed s)
-unfolding prescribed
+unfolding runOf
 every-line s =
-    split (ltb 65536 (length s))
-    (λ e. rw e (record { front = ascii "too long"; is = refl; plain = refl }, tt))
-    (λ e. rw e (script-ends [] (scriptOf 1 (fileOf s))))
+    cases (ltb 65536 (length s)) (λ e. rw e (item-ends TooLong tt, tt)) (λ e. rw e (script-ends [] (scriptOf 1 (fileOf s))))

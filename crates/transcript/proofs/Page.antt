@@ -10,8 +10,9 @@ use Rattle.rules.specs.Judge.{late, reply, judgeResponse, busy, judgeCommand, j
 use Rattle.rules.specs.Apply.{answeredRows}
 use Rattle.fields.specs.Fields.{fileOf, rowOf, stepOf, fieldBytes}
 use Rattle.text.specs.Text.{ascii, decimalOf}
-use Rattle.lines.specs.Lines.{said}
-use Rattle.transcript.specs.Prescribed.{prescribed}
+use Rattle.lines.specs.Lines.{wordOf, textOf}
+use Rattle.run.specs.Run.{runOf}
+use Rattle.transcript.specs.Prescribed.{lineWith, prescribed}
 
 abbrev session : List ℕ
 session =
@@ -30,5 +31,5 @@ pub page-session : prescribed session
     ∷ ascii "4 given 01000001FF030002FFF3\n"
     ∷ ascii "totals 2 1 1 0 1\n"
     ∷ []
-unfolding prescribed fileOf rowOf stepOf shaped judgeTable categoryOf subAddressOf handlerOf multi common own readOf partOf codeOf messageOf responseOf late reply judgeResponse busy judgeCommand judgeKind judgeRead judgeMessage yields judgeGiveUp judgeReplaced answeredRows decimalOf said
+unfolding runOf lineWith fileOf rowOf stepOf shaped judgeTable categoryOf subAddressOf handlerOf multi common own readOf partOf codeOf messageOf responseOf late reply judgeResponse busy judgeCommand judgeKind judgeRead judgeMessage yields judgeGiveUp judgeReplaced answeredRows decimalOf wordOf textOf
 page-session = refl

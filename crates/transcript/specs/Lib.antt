@@ -1,3 +1,2 @@
 pub mod Prescribed
 pub mod Totals
-pub mod Left

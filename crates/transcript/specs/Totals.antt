@@ -1,31 +1,35 @@
--- What the totals count, from the history of all calls of a session.
+-- The rows and the steps of an input, and its steps as the calls of a history.
 use Prim.Native.Nat.{ℕ, zero, suc}
-use mathlib.Core.List.{List, _∷_}
-use Rattle.lists.specs.Lists.{count}
+use mathlib.Core.List.{List, [], _∷_}
 use Rattle.table.specs.declared.Row.{Row}
-use Rattle.places.specs.Places.{isOpen, isOwed}
-use Rattle.fields.specs.Fields.{Steps, over, broken, then}
-use Rattle.history.specs.History as history
-use Rattle.lines.specs.declared.Totals.{Totals}
-use Rattle.transcript.specs.Prescribed.{callOf}
+use Rattle.fields.specs.Fields.{Steps, over, broken, then, Script, torn, begins, row-then, fileOf, scriptOf}
+use Rattle.history.specs.History.{Step}
+use Rattle.run.specs.Run.{called}
 
--- the steps of a session as calls after some earlier ones, the newest first; each has a reply buffer of 10 bytes
-abbrev pub callsOf : List history.Step → Steps → List history.Step
+-- the rows, the last one first, after some earlier ones; and the steps after them, where a broken row ends all
+abbrev pub rowsThere : List Row → Script → List Row
+rowsThere rows (torn n) = rows
+rowsThere rows (begins m) = rows
+rowsThere rows (row-then a o m) = rowsThere (record { address = a; opened = o } ∷ rows) m
+
+abbrev pub stepsThere : Script → Steps
+stepsThere (torn n) = broken n
+stepsThere (begins m) = m
+stepsThere (row-then a o m) = stepsThere m
+
+abbrev pub rowsIn : List ℕ → List Row
+rowsIn s = rowsThere [] (scriptOf 1 (fileOf s))
+
+abbrev pub stepsIn : List ℕ → Steps
+stepsIn s = stepsThere (scriptOf 1 (fileOf s))
+
+-- the steps as calls after some earlier ones, the newest first
+abbrev pub callsOf : List Step → Steps → List Step
 callsOf past over = past
 callsOf past (broken n) = past
-callsOf past (then st m) = callsOf (record { room = 10; call = callOf st } ∷ past) m
+callsOf past (then st m) = callsOf (called st ∷ past) m
 
 abbrev pub howMany : Steps → ℕ
 howMany over = zero
 howMany (broken n) = zero
 howMany (then st m) = suc (howMany m)
-
--- 'totals: accepted, answered, given up, waiting, owing'; accepted are the passed commands
-abbrev pub totalsAfter : List Row → List history.Step → Totals
-totalsAfter rows calls = record {
-  accepted = history.total history.isPassed (history.history rows calls);
-  answered = history.total history.isAnswered (history.history rows calls);
-  given = history.total history.isGiven (history.history rows calls);
-  waiting = count isOpen (history.viewAfter rows calls .places);
-  owing = count isOwed (history.viewAfter rows calls .places);
-}

@@ -1,6 +1,7 @@
 -- `lines::put_said` meets its contract: each arm is the case that the match found. Assumes nothing.
 use Rattle.text.specs.Text.{ascii}
-use Rattle.lines.specs.Lines.{said}
+use Rattle.message.specs.Message.{responseOf, messageOf}
+use Rattle.lines.specs.Lines.{wordOf, textOf}
 use Rattle.lines.proofs.Say.{say, count}
 use borrow.Author.Needs.{needs}
 use Rattle.lines.proofs.put_said.Statement.{statement}
@@ -88,56 +89,56 @@ same-length : tie.Need-same-length
 same-length c = search needs
 
 returns : tie.Need-returns
-unfolding said
+unfolding wordOf textOf responseOf messageOf
 returns c = say _ _ _ _ (c .before .before .before .before .before .before .before .before .before .args .reply .now) (c .before .before .before .before .before .before .outcome .given .1) (c .before .before .put-address .ensures)
 
 same-length-2 : tie.Need-same-length-2
 same-length-2 c = search needs
 
 returns-2 : tie.Need-returns-2
-unfolding said
+unfolding wordOf textOf responseOf messageOf
 returns-2 c = say _ _ _ _ (c .before .before .before .before .before .before .before .before .before .args .reply .now) (c .before .before .before .before .before .before .outcome2 .given .1) (c .before .before .put-address2 .ensures)
 
 same-length-3 : tie.Need-same-length-3
 same-length-3 c = search needs
 
 returns-3 : tie.Need-returns-3
-unfolding said
+unfolding wordOf textOf responseOf messageOf
 returns-3 c = say _ _ _ _ (c .before .before .before .before .before .before .before .before .args .reply .now) (c .before .before .before .before .before .enum-told .given .1) (c .before .before .put-reply .ensures)
 
 same-length-4 : tie.Need-same-length-4
 same-length-4 c = search needs
 
 returns-4 : tie.Need-returns-4
-unfolding said
+unfolding wordOf textOf responseOf messageOf
 returns-4 c = say _ _ _ _ (c .before .before .before .before .before .before .before .before .args .reply .now) (c .before .before .before .before .before .enum-told2 .given .1) (c .before .before .put-reply2 .ensures)
 
 same-length-5 : tie.Need-same-length-5
 same-length-5 c = search needs
 
 returns-5 : tie.Need-returns-5
-unfolding said
+unfolding wordOf textOf responseOf messageOf
 returns-5 c = say _ _ _ _ (c .before .before .before .before .before .before .before .before .before .before .args .reply .now) (c .before .before .before .before .before .before .before .outcome3 .given .1) (count _ _ (ascii " refused ") _ _ (c .before .before .before .number .ensures) (c .before .before .put-number .ensures))
 
 same-length-6 : tie.Need-same-length-6
 same-length-6 c = search needs
 
 returns-6 : tie.Need-returns-6
-unfolding said
+unfolding wordOf textOf responseOf messageOf
 returns-6 c = say _ _ _ _ (c .before .before .before .before .before .before .before .before .args .reply .now) (c .before .before .before .before .before .enum-told3 .given .1) (c .before .before .put-all .ensures)
 
 same-length-7 : tie.Need-same-length-7
 same-length-7 c = search needs
 
 returns-7 : tie.Need-returns-7
-unfolding said
+unfolding wordOf textOf responseOf messageOf
 returns-7 c = say _ _ _ _ (c .before .before .before .before .before .before .before .before .args .reply .now) (c .before .before .before .before .before .enum-told4 .given .1) (c .before .before .put-all2 .ensures)
 
 same-length-8 : tie.Need-same-length-8
 same-length-8 c = search needs
 
 returns-8 : tie.Need-returns-8
-unfolding said
+unfolding wordOf textOf responseOf messageOf
 returns-8 c = say _ _ _ _ (c .before .before .before .before .before .before .before .before .args .reply .now) (c .before .before .before .before .before .enum-told5 .given .1) (c .before .before .put-all3 .ensures)
 
 pub put-said-spec : {M : Type 1} → statement M

@@ -3,13 +3,15 @@ use borrow.Author.Tests.{not-false}
 use mathlib.Core.Path.{_≡_, sym}
 use lib.ListN.{length}
 use lib.Seq.{length-take-le}
-use Rattle.transcript.specs.Left.{Sound, linesLeft}
+use native.Mathlib.Omega.{arith}
+use Rattle.pages.specs.Pages.{Ready, linesLeft}
+use Rattle.pages.proofs.Text.{fewer}
 use borrow.Author.Needs.{needs}
 use Rattle.printer.proofs.show.Statement.{statement}
 use Rattle.printer.proofs.show.Tie as tie
 
 abbrev Inv-loop : tie.InvT-loop
-Inv-loop program input page₀ session₀ page session = (65536 ≡ length page) × Sound input session
+Inv-loop program input page₀ session₀ page session = (65536 ≡ length page) × Ready session
 
 abbrev μ-loop : tie.MeasureT-loop
 μ-loop program input page₀ session₀ page session = length (linesLeft input session)
@@ -21,7 +23,7 @@ begin-requires : tie.Need-begin-requires Inv-loop μ-loop
 begin-requires c κs = search needs
 
 loop-holds : tie.Need-loop-holds Inv-loop μ-loop
-loop-holds c = search needs
+loop-holds c = (search needs, record { law = c .begin .ensures .law; sound = c .begin .ensures .sound })
 
 slice-aggregate-fill-page : tie.Need-slice-aggregate-fill-page Inv-loop μ-loop
 slice-aggregate-fill-page c = search needs
@@ -45,7 +47,7 @@ returns-2 : tie.Need-returns-2 Inv-loop μ-loop
 returns-2 c = search needs
 
 loop-less : tie.Need-loop-less Inv-loop μ-loop
-loop-less c = c .before .before .before .before .before .before .before .fill-page .ensures .fewer (not-false _ (c .before .if2 .left))
+loop-less c = fewer (c .before .before .before .before .before .before .before .before .before .before .before .before .before .before .args .input .now) (c .before .before .before .before .before .before .before .before .before .loop .session) (c .before .before .before .before .before .before .before .before .before .loop .page) _ (c .before .before .before .before .before .before .before .fill-page .result) (c .before .before .before .before .before .before .before .fill-page .ensures) (omega (arith, c .before .before .before .before .before .before .before .before .before .loop .inv .0)) (not-false _ (c .before .if2 .left))
 
 loop-again : tie.Need-loop-again Inv-loop μ-loop
 loop-again c = search needs

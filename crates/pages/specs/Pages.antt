@@ -1,0 +1,75 @@
+-- Lines gathered in pages.
+use Prim.Native.Nat.{ℕ, zero, suc, _-_, _≤_}
+use mathlib.Core.Path.{_≡_}
+use mathlib.Core.Bool.{Bool, true, cond}
+use mathlib.Core.List.{List, [], _∷_, _++_, map}
+use lib.Dec.{ltb}
+use lib.ListN.{length, take, drop}
+use Rattle.rules.specs.View.{View}
+use Rattle.router.specs.Router.{viewOf, Lawful}
+use Rattle.text.specs.Text.{pen, puts}
+use Rattle.run.specs.declared.Cursor.{Cursor}
+use Rattle.run.specs.declared.Session.{Session}
+use Rattle.run.specs.State.{itemsLeft, Sound, nextOf}
+use Rattle.transcript.specs.Prescribed.{lineOf}
+use Rattle.pages.specs.declared.Page.{Page}
+
+-- lines one after the other
+abbrev pub joined : List (List ℕ) → List ℕ
+joined [] = []
+joined (l ∷ ls) = l ++ joined ls
+
+-- the law of every session that `run::begin` or `fill_page` hands back
+pub record Ready (w : Session) : Type 0 where
+  pub law : Lawful (w .router)
+  pub sound : Sound (w .cursor)
+
+-- ---- what is left to print
+
+-- a session as it means
+pub record Sight : Type 0 where
+  pub view : View
+  pub cursor : Cursor
+
+abbrev pub sightOf : Session → Sight
+sightOf w = record { view = viewOf (w .router); cursor = w .cursor }
+
+abbrev pub leftIn : List ℕ → Sight → List (List ℕ)
+leftIn s x = map lineOf (itemsLeft s (x .view) (x .cursor))
+
+abbrev pub linesLeft : List ℕ → Session → List (List ℕ)
+linesLeft s w = leftIn s (sightOf w)
+
+-- after n items
+abbrev pub turned : List ℕ → Sight → Sight
+turned s x = record { view = nextOf s (x .view) (x .cursor) .view; cursor = nextOf s (x .view) (x .cursor) .cursor }
+
+abbrev pub after : ℕ → List ℕ → Sight → Sight
+after zero s x = x
+after (suc n) s x = turned s (after n s x)
+
+-- ---- a page with room for so many bytes: a line is begun while there are 64 left
+
+-- how many lines go onto it
+abbrev pub fitting : (room : ℕ) → List (List ℕ) → ℕ
+fitting n [] = 0
+fitting n (l ∷ ls) = cond (ltb n 64) 0 (suc (fitting (n - length l) ls))
+
+-- whether it is full before the lines are over
+abbrev pub full : (room : ℕ) → List (List ℕ) → Bool
+full n [] = ltb n 64
+full n (l ∷ ls) = cond (ltb n 64) true (full (n - length l) ls)
+
+-- how many items are asked for: where the lines are over, one more
+abbrev pub turns : (room : ℕ) → List (List ℕ) → ℕ
+turns n ls = cond (full n ls) (fitting n ls) (suc (fitting n ls))
+
+-- the contract of `fill_page`: the lines that fit stand at the page's front, and those after them are left
+pub record Paged (s : List ℕ) (w : Session) (old new : List ℕ) (p : Page) : Type 0 where
+  pub text : pen new (p .used) ≡ puts (pen old 0) (joined (take (fitting (length old) (linesLeft s w)) (linesLeft s w)))
+  pub size : p .used ≡ length (joined (take (fitting (length old) (linesLeft s w)) (linesLeft s w)))
+  pub inside : p .used ≤ length new
+  pub more : p .more ≡ full (length old) (linesLeft s w)
+  pub left : linesLeft s (p .next) ≡ drop (fitting (length old) (linesLeft s w)) (linesLeft s w)
+  pub moved : sightOf (p .next) ≡ after (turns (length old) (linesLeft s w)) s (sightOf w)
+  pub ready : Ready (p .next)

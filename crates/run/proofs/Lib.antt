@@ -1,0 +1,5 @@
+pub mod Counts
+pub mod Turns
+pub mod Left
+pub mod Rows
+pub mod Once
