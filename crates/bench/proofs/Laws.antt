@@ -1,83 +1,95 @@
--- Where a field lies in its input, what a last turn says, and the router to begin with.
-use Prim.Native.Nat.{ℕ, _+_, _≤_, _<_}
-use mathlib.Core.Path.{_≡_, refl}
+-- Where a field lies in its input, the number at the start of a line, and what a turn says.
+use Prim.Native.Nat.{ℕ, _+_, _≤_}
+use mathlib.Core.Path.{_≡_, refl, ap, _∙_}
 use mathlib.Core.Bool.{true, false}
-use mathlib.Core.List.{List}
+use mathlib.Core.List.{List, _++_}
 use native.Mathlib.Omega.{arith}
 use lib.Dec.{leb, ltb}
-use lib.ListN.{length}
+use lib.ListN.{length, take, drop, length-append}
+use lib.Seq.{take-at}
 use borrow.Author.Tests.{ltb-false}
+use borrow.Rule.Slice.PartMut.{putMid, take-put}
 use Rattle.tapa.specs.Numbers.{wordAt}
-use Rattle.tapa.specs.Address.{categoryOf, subAddressOf, multi}
 use Rattle.lists.proofs.Tests.{split, differ}
 use Rattle.fields.specs.Places.{readAt}
 use Rattle.fields.specs.declared.Read.the-variants.{Field}
-use Rattle.table.specs.declared.Row.{Row}
-use Rattle.table.specs.Table.{noRows, withRow, shaped, judgeTable, judgeRows}
-use Rattle.table.proofs.Read.{with-held, none-held}
-use Rattle.router.specs.Router as router
-use Rattle.start.specs.Start.{startWith}
-use Rattle.start.proofs.Starts.{start-law}
+use Rattle.text.specs.Text.{Pen, pen, puts, decimalOf}
+use Rattle.text.proofs.Laws.{puts-fit, five-digits}
+use Rattle.lines.specs.Lines.{longLine}
 use Rattle.bench.specs.declared.Bench.{Bench}
 use Rattle.bench.specs.declared.Turn.{Turn}
-use Rattle.bench.specs.Bench.{Sound, Stops, Turns, Fills}
+use Rattle.bench.specs.Bench.{Lawful, Sound, Placed, Lines, Numbered, Turns}
 
 -- a whole field starts three bytes on, and ends in the input
-pub record Placed (s : List ℕ) (at a n : ℕ) : Type 0 where
-  pub begins : a ≡ at + 3
-  pub ends : a + n ≤ length s
-
-pub placed : (s : List ℕ) (at t a n : ℕ) → readAt s at ≡ Field t a n → Placed s at a n
+pub placed : (s : List ℕ) (b : Bench) (t a n : ℕ) → length s ≤ 65536 → readAt s (b .at) ≡ Field t a n → Placed s b a (a + n)
 unfolding readAt
-placed s at t a n =
-    split (leb (length s) at)
+placed s b t a n short =
+    split (leb (length s) (b .at))
     (λ e. rw e (λ h. differ (cc)))
-    (λ e. rw e (split (ltb (length s) (at + 3))
+    (λ e. rw e (split (ltb (length s) (b .at + 3))
     (λ f. rw f (λ h. differ (cc)))
-    (λ f. rw f (split (ltb (length s) (at + 3 + wordAt s (at + 1)))
+    (λ f. rw f (split (ltb (length s) (b .at + 3 + wordAt s (b .at + 1)))
     (λ g. rw g (λ h. differ (cc)))
-    (λ g. rw g (λ h. record { begins = cc; ends = let p : at + 3 ≡ a = cc in let q : wordAt s (at + 1) ≡ n = cc in omega (arith, ltb-false (length s) (at + 3 + wordAt s (at + 1)) g) }))))))
+    (λ g. rw g (λ h.
+    let p : b .at + 3 ≡ a = cc in
+    let q : wordAt s (b .at + 1) ≡ n = cc in
+    let m : b .at + 3 + wordAt s (b .at + 1) ≤ length s = ltb-false (length s) (b .at + 3 + wordAt s (b .at + 1)) g in
+    record { begins = omega arith; ordered = omega arith; inside = omega arith; near = omega arith }))))))
 
--- a last turn is a turn
-pub stopped : (s : List ℕ) (b : Bench) (line : List ℕ) (t : Turn) → Stops line t → Turns s b line t
-stopped s b line t h = record {
-  sound = h .sound;
-  fits = h .fits;
+-- ---- the number at the start of a line
+
+-- a text at the start of a line that has room for it
+pub record Written (text line : List ℕ) (r : ℕ) : Type 0 where
+  pub counts : r ≡ length text
+  pub first : take r line ≡ text
+  pub fits : r ≤ length line
+
+written : (l line t : List ℕ) (r : ℕ) → length t ≤ length l → pen line r ≡ puts (pen l 0) t → Written t line r
+written l line t r h e =
+    let p : pen line r ≡ pen (t ++ drop (length t) l) (length t) = e ∙ puts-fit l t h in
+    let n : r ≡ length t = ap (λ (q : Pen). q .at) p in
+    let b : line ≡ t ++ drop (length t) l = ap (λ (q : Pen). q .bytes) p in
+    record {
+      counts = n;
+      first = rw (b, n) (take-at t (drop (length t) l) (length t) refl);
+      fits = rw b (omega (arith, length-append t (drop (length t) l)));
+    }
+
+pub number-written : (l line : List ℕ) (r n : ℕ) → 64 ≤ length l → n ≤ 65537 → pen line r ≡ puts (pen l 0) (decimalOf n) → Written (decimalOf n) line r
+number-written l line r n h m e = written l line (decimalOf n) r (omega (arith, five-digits n (omega arith))) e
+
+pub long-fits : (l line : List ℕ) (r : ℕ) → 64 ≤ length l → pen line r ≡ puts (pen l 0) longLine → r ≤ length line
+long-fits l line r h e = written l line longLine r (omega arith) e .fits
+
+-- what is written behind the number leaves it
+pub lined : (b next : Bench) (a k p : ℕ) (l x : List ℕ)
+    → Written (decimalOf (b .number)) l a → Lawful next → p ≤ length (putMid a k l x)
+    → Lines b (putMid a k l x) (record { place = p; next = next })
+lined b next a k p l x w lawful h = record { lawful = lawful; fits = h; numbered = rw (← w .counts) (take-put a k l x (w .fits) ∙ w .first) }
+
+-- ---- turns
+
+-- a last turn
+pub stopped : (s : List ℕ) (b : Bench) (line : List ℕ) (t : Turn) → t .more ≡ false → t .length ≤ length line → Turns s b line t
+stopped s b line t m h = record {
+  sound = λ e. differ (cc);
+  fits = h;
   onwards = λ e. differ (cc);
   inside = λ e. differ (cc);
+  counts = λ e. differ (cc);
+  numbered = λ e. differ (cc);
 }
 
--- a turn that moves on to a place in the input
-pub moved : (s : List ℕ) (b : Bench) (line : List ℕ) (t : Turn) (e : ℕ) → Sound (t .next) → t .length ≤ length line → t .next .at ≡ e → b .at < e → e ≤ length s
+-- a turn that moves on to the end of its field
+pub moved : (s : List ℕ) (b : Bench) (from to : ℕ) (line : List ℕ) (t : Turn)
+    → Sound b → Placed s b from to → t .next .at ≡ to → t .next .number ≡ b .number + 1 → Lawful (t .next)
+    → t .length ≤ length line → (1 ≤ t .length → Numbered (b .number) line)
     → Turns s b line t
-moved s b line t e sound fits at less inside = record {
-  sound = sound;
+moved s b from to line t sound at e n parts fits begins = record {
+  sound = λ m. record { parts = parts; counted = omega (arith, sound .counted, at .begins, at .ordered); near = omega (arith, at .near) };
   fits = fits;
-  onwards = λ m. omega arith;
-  inside = λ m. omega arith;
+  onwards = λ m. omega (arith, at .begins, at .ordered);
+  inside = λ m. omega (arith, at .inside);
+  counts = λ m. n;
+  numbered = λ m. begins;
 }
-
--- the fields of a page so far: the buffers keep their lengths, the lines lie in theirs, and the place has not gone back
-pub record Going (work₀ out₀ : List ℕ) (b₀ : Bench) (work out : List ℕ) (b : Bench) (used : ℕ) : Type 0 where
-  pub works : length work ≡ length work₀
-  pub outs : length out ≡ length out₀
-  pub fits : used ≤ length out
-  pub sound : Sound b
-  pub on : b₀ .at ≤ b .at
-
--- a page ends with the last turn, or where there is no more room
-module _ (s : List ℕ) (b₀ b : Bench) (out : List ℕ) (t : Turn) (h : Turns s b out t) where
-  pub page-over : Fills s b₀ out (record { used = t .length; more = false; next = t .next })
-  page-over = record { sound = h .sound; fits = h .fits; onwards = λ e. differ (cc); inside = λ e. differ (cc) }
-
-  pub page-full : b₀ .at ≤ b .at → t .more ≡ true → Fills s b₀ out (record { used = t .length; more = true; next = t .next })
-  page-full on m =
-      let p : b .at < t .next .at = h .onwards m in
-      record { sound = h .sound; fits = h .fits; onwards = λ e. omega arith; inside = λ e. h .inside m }
-
--- one row, of a till driver that is open
-abbrev pub firstRow : Row
-firstRow = record { address = 256; opened = true }
-
-pub first-lawful : router.Lawful (startWith (withRow noRows firstRow) .router)
-first-lawful = start-law (withRow noRows firstRow) (with-held noRows firstRow none-held)

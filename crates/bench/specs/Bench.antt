@@ -1,43 +1,50 @@
 -- The law of a bench: what the parts that it holds ask of their states, and that its place counts its fields.
 use Prim.Native.Nat.{ℕ, _+_, _≤_, _<_}
 use mathlib.Core.Path.{_≡_}
-use mathlib.Core.Bool.{true, false}
+use mathlib.Core.Bool.{true}
 use mathlib.Core.List.{List}
-use lib.ListN.{length}
+use lib.ListN.{length, take}
+use Rattle.text.specs.Text.{decimalOf}
 use Rattle.table.specs.Table.{Held}
 use Rattle.queue.specs.Places as queue
 use Rattle.router.specs.Router as router
-use Rattle.bench.specs.declared.Parts.{Parts}
 use Rattle.bench.specs.declared.Bench.{Bench}
+use Rattle.bench.specs.declared.Said.{Said}
 use Rattle.bench.specs.declared.Turn.{Turn}
-use Rattle.bench.specs.declared.Page.{Page}
 
-pub record Lawful (p : Parts) : Type 0 where
-  pub queue : queue.Lawful (p .queue)
-  pub router : router.Lawful (p .router)
-  pub rows : Held (p .rows)
+pub record Lawful (b : Bench) : Type 0 where
+  pub queue : queue.Lawful (b .queue)
+  pub router : router.Lawful (b .router)
+  pub rows : Held (b .rows)
 
--- the next field's number is at most one more than the bytes before it
+-- the next field's number is at most one more than the bytes before it, and an input has at most 65,536
 pub record Sound (b : Bench) : Type 0 where
-  pub parts : Lawful (b .parts)
+  pub parts : Lawful b
   pub counted : b .number ≤ b .at + 1
+  pub near : b .at ≤ 65536
 
--- the last turn: its line lies in the buffer
-pub record Stops (line : List ℕ) (t : Turn) : Type 0 where
-  pub sound : Sound (t .next)
-  pub fits : t .length ≤ length line
-  pub over : t .more ≡ false
+-- the contents of the field at a bench's place, in an input that is not too long
+pub record Placed (input : List ℕ) (b : Bench) (from to : ℕ) : Type 0 where
+  pub begins : b .at + 3 ≤ from
+  pub ordered : from ≤ to
+  pub inside : to ≤ length input
+  pub near : to ≤ 65536
 
--- a turn at one place: its line lies in the buffer, and where there is more the place has moved on within the input
+-- a line begins with the number of its field
+abbrev pub Numbered : ℕ → List ℕ → Type 0
+Numbered number line = take (length (decimalOf number)) line ≡ decimalOf number
+
+-- the line of a field: it lies in the buffer
+pub record Lines (b : Bench) (line : List ℕ) (s : Said) : Type 0 where
+  pub lawful : Lawful (s .next)
+  pub fits : s .place ≤ length line
+  pub numbered : Numbered (b .number) line
+
+-- a turn at one place: its line lies in the buffer; where there is more, the place has moved on within the input and the field is counted
 pub record Turns (input : List ℕ) (b : Bench) (line : List ℕ) (t : Turn) : Type 0 where
-  pub sound : Sound (t .next)
+  pub sound : t .more ≡ true → Sound (t .next)
   pub fits : t .length ≤ length line
   pub onwards : t .more ≡ true → b .at < t .next .at
   pub inside : t .more ≡ true → t .next .at ≤ length input
-
--- the same of a page of turns
-pub record Fills (input : List ℕ) (b : Bench) (out : List ℕ) (p : Page) : Type 0 where
-  pub sound : Sound (p .next)
-  pub fits : p .used ≤ length out
-  pub onwards : p .more ≡ true → b .at < p .next .at
-  pub inside : p .more ≡ true → p .next .at ≤ length input
+  pub counts : t .more ≡ true → t .next .number ≡ b .number + 1
+  pub numbered : t .more ≡ true → 1 ≤ t .length → Numbered (b .number) line

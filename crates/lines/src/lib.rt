@@ -15,7 +15,7 @@ ghost use Rattle.lines.specs.Lines.{textOf, stepLine, totalsLine, broken
 // ---- parts of a line
 
 // A word and a number.
-fn put_number(line: &mut [u8], at: usize, word: &[u8], n: usize) -> usize
+pub fn put_number(line: &mut [u8], at: usize, word: &[u8], n: usize) -> usize
     ensures { λ r. ⌜ pen (now (line .exit)) r ≡ puts (pen (now (line .entry)) at) (now (word .entry) ++ decimalOf n) ⌝ }
 {
     let next = text::put_all(line, at, word);
@@ -23,7 +23,7 @@ fn put_number(line: &mut [u8], at: usize, word: &[u8], n: usize) -> usize
 }
 
 // A word and an address.
-fn put_address(line: &mut [u8], at: usize, word: &[u8], address: u16) -> usize
+pub fn put_address(line: &mut [u8], at: usize, word: &[u8], address: u16) -> usize
     ensures { λ r. ⌜ pen (now (line .exit)) r ≡ puts (pen (now (line .entry)) at) (now (word .entry) ++ wordHexOf address) ⌝ }
 {
     let next = text::put_all(line, at, word);

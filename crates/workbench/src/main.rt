@@ -1,57 +1,51 @@
 // Runs any part of the base on any bytes: fields in, one line a field out (docs/WORKBENCH.md).
 //
-// It reads standard input, or each file that an argument names. The work is in crate `bench`.
-use libc::STDOUT_FILENO;
+// It reads standard input, or each file that an argument names; crate `inputs` says what cannot
+// be read or written. The work is in crate `bench`.
 
-// Prints the lines of one input, a buffer at a time.
-fn show(input: &[u8]) {
-    let mut out = io::large_buffer();
+// Prints the lines of one input, one at a time; false where they cannot be written.
+fn show(program: &[u8], input: &[u8]) -> bool {
+    let mut line = [0u8; 8192];
     let mut work = bench::buffer();
     let mut bench = bench::fresh();
     loop {
-        let page = bench.fill(input, &mut work, &mut out);
-        let used = page.used;
-        io::write_all(STDOUT_FILENO, &out[..used]);
-        if !page.more {
+        let turn = bench.turn(input, &mut work, &mut line);
+        let used = turn.length;
+        if !inputs::write(program, &line[..used]) {
+            return false;
+        }
+        if !turn.more {
+            return true;
+        }
+        bench = turn.next;
+    }
+}
+
+// Reads one byte more than an input may have, so that a longer one is seen. Of a file that cannot
+// be read nothing is printed; `inputs` has said why.
+fn show_input(program: &[u8], i: usize) -> bool {
+    let mut input = [0u8; 65537];
+    let waits = b"waiting for fields on standard input (Ctrl-D ends it)";
+    let got = inputs::read(program, waits, i, &mut input);
+    if !got.whole {
+        return true;
+    }
+    let n = got.length;
+    show(program, &input[..n])
+}
+
+// Prints the lines of standard input or, where arguments name files, of each file in turn.
+fn show_inputs(program: &[u8]) {
+    let count = os::arg_count();
+    let mut i = inputs::first_name();
+    while show_input(program, i) {
+        i += 1;
+        if count <= i {
             return;
         }
-        bench = page.next;
     }
-}
-
-// One byte more than an input may have, so that a longer one is seen.
-fn show_all(fd: i32) {
-    let mut input = [0u8; 65537];
-    let n = io::read_full(fd, &mut input);
-    show(&input[..n]);
-}
-
-// A file that cannot be opened is named on standard error.
-fn show_file(i: usize) {
-    let mut path = io::buffer();
-    let n = os::arg(i, &mut path);
-    if os::errno() != 0 {
-        os::fail(b"path");
-        return;
-    }
-    let fd = os::open_read(&path[..n]);
-    if fd < 0 {
-        os::fail(&path[..n]);
-        return;
-    }
-    show_all(fd);
-    libc::close(fd);
 }
 
 fn main() {
-    let count = os::arg_count();
-    if count < 2 {
-        show_all(0);
-        return;
-    }
-    let mut i = 1;
-    while i < count {
-        show_file(i);
-        i += 1;
-    }
+    show_inputs(b"workbench");
 }

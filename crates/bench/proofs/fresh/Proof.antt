@@ -1,8 +1,11 @@
 -- `bench::fresh` meets its contract: every part is fresh, and lawful. Assumes nothing.
-use mathlib.Core.Path.{subst, sym}
+use mathlib.Core.Path.{refl, subst, sym}
 use Rattle.table.specs.declared.Rows.{Rows}
 use Rattle.table.specs.Table.{Held}
 use Rattle.table.proofs.Read.{none-held}
+use Rattle.router.specs.Router as router
+use Rattle.start.specs.declared.Started.{Started}
+use Rattle.start.proofs.Starts.{start-law}
 use borrow.Author.Needs.{needs}
 use Rattle.bench.proofs.fresh.Statement.{statement}
 use Rattle.bench.proofs.fresh.Tie as tie
@@ -13,25 +16,27 @@ fresh-requires c κs = search needs
 fresh-requires-2 : tie.Need-fresh-requires-2
 fresh-requires-2 c κs = search needs
 
-first-router-requires : tie.Need-first-router-requires
-first-router-requires c κs = search needs
-
 no-rows-requires : tie.Need-no-rows-requires
 no-rows-requires c κs = search needs
 
-bench-at-requires : tie.Need-bench-at-requires
-bench-at-requires c κs = (record { queue = search needs; router = search needs; rows = subst (λ (t : Rows). Held t) (sym (c .no-rows .ensures)) none-held }, search needs)
+start-with-requires : tie.Need-start-with-requires
+start-with-requires c κs = search needs
 
 returns : tie.Need-returns
-returns c = search needs
+returns c =
+    let held : Held (c .before .before .no-rows .result) = subst (λ (t : Rows). Held t) (sym (c .before .before .no-rows .ensures)) none-held in (
+      record {
+        parts = record {
+          queue = search needs;
+          router = subst (λ (s : Started). router.Lawful (s .router)) (sym (c .before .start-with .ensures)) (start-law _ held);
+          rows = held;
+        };
+        counted = search needs;
+        near = search needs;
+      },
+      refl,
+    )
 
 pub fresh-spec : {M : Type 1} → statement M
 fresh-spec =
-    tie.close
-    (tie.spec
-    fresh-requires
-    fresh-requires-2
-    first-router-requires
-    no-rows-requires
-    bench-at-requires
-    returns)
+    tie.close (tie.spec fresh-requires fresh-requires-2 no-rows-requires start-with-requires returns)

@@ -12,13 +12,10 @@ use Rattle.workbench.proofs.show.Statement.{statement}
 use Rattle.workbench.proofs.show.Tie as tie
 
 abbrev Inv-loop : tie.InvT-loop
-Inv-loop input out₀ work₀ bench₀ out work bench = (65536 ≡ length out) × (2048 ≡ length work) × Sound bench
+Inv-loop program input line₀ work₀ bench₀ line work bench = (8192 ≡ length line) × (2048 ≡ length work) × Sound bench
 
 abbrev μ-loop : tie.MeasureT-loop
-μ-loop input out₀ work₀ bench₀ out work bench = length input - bench .at
-
-large-buffer-requires : tie.Need-large-buffer-requires Inv-loop μ-loop
-large-buffer-requires c κs = search needs
+μ-loop program input line₀ work₀ bench₀ line work bench = length input - bench .at
 
 buffer-requires : tie.Need-buffer-requires Inv-loop μ-loop
 buffer-requires c κs = search needs
@@ -29,32 +26,35 @@ fresh-requires c κs = search needs
 loop-holds : tie.Need-loop-holds Inv-loop μ-loop
 loop-holds c = search needs
 
-slice-aggregate-fill : tie.Need-slice-aggregate-fill Inv-loop μ-loop
-slice-aggregate-fill c = search needs
+slice-aggregate-turn : tie.Need-slice-aggregate-turn Inv-loop μ-loop
+slice-aggregate-turn c = search needs
 
-slice-aggregate-fill-2 : tie.Need-slice-aggregate-fill-2 Inv-loop μ-loop
-slice-aggregate-fill-2 c = search needs
+slice-aggregate-turn-2 : tie.Need-slice-aggregate-turn-2 Inv-loop μ-loop
+slice-aggregate-turn-2 c = search needs
 
-fill-requires : tie.Need-fill-requires Inv-loop μ-loop
-fill-requires c κs = search needs
+turn-requires : tie.Need-turn-requires Inv-loop μ-loop
+turn-requires c κs = search needs
 
-array-share-prefix-out : tie.Need-array-share-prefix-out Inv-loop μ-loop
-array-share-prefix-out c = search needs
+array-share-prefix-line : tie.Need-array-share-prefix-line Inv-loop μ-loop
+array-share-prefix-line c = search needs
 
-slice-aggregate-write-all : tie.Need-slice-aggregate-write-all Inv-loop μ-loop
-slice-aggregate-write-all c = sym (length-take-le _ _ (search needs))
+slice-aggregate-write : tie.Need-slice-aggregate-write Inv-loop μ-loop
+slice-aggregate-write c = sym (length-take-le _ _ (search needs))
 
-write-all-requires : tie.Need-write-all-requires Inv-loop μ-loop
-write-all-requires c κs = search needs
+write-requires : tie.Need-write-requires Inv-loop μ-loop
+write-requires c κs = search needs
 
 returns : tie.Need-returns Inv-loop μ-loop
 returns c = search needs
 
+returns-2 : tie.Need-returns-2 Inv-loop μ-loop
+returns-2 c = search needs
+
 loop-less : tie.Need-loop-less Inv-loop μ-loop
-loop-less c = omega (arith, c .before .before .before .before .before .before .before .fill .ensures .onwards (not-false _ (c .before .if1 .left)), c .before .before .before .before .before .before .before .fill .ensures .inside (not-false _ (c .before .if1 .left)))
+loop-less c = ?
 
 loop-again : tie.Need-loop-again Inv-loop μ-loop
-loop-again c = search needs
+loop-again c = ?
 
 pub show-spec : {M : Type 1} → statement M
 show-spec =
@@ -62,16 +62,16 @@ show-spec =
     (tie.spec
     Inv-loop
     μ-loop
-    large-buffer-requires
     buffer-requires
     fresh-requires
     loop-holds
-    slice-aggregate-fill
-    slice-aggregate-fill-2
-    fill-requires
-    array-share-prefix-out
-    slice-aggregate-write-all
-    write-all-requires
+    slice-aggregate-turn
+    slice-aggregate-turn-2
+    turn-requires
+    array-share-prefix-line
+    slice-aggregate-write
+    write-requires
     returns
+    returns-2
     loop-less
     loop-again)
