@@ -4,4 +4,4 @@ pub mod Marks
 pub mod Once
 pub mod Part
 pub mod Read
-pub mod Walks
+pub mod Cells

@@ -1,59 +1,41 @@
 -- Rows that are read one by one: what is held then, and that the table is judged as the list of all lent rows.
 use Prim.Native.Nat.{ℕ, zero, suc, _+_, _≤_, _<_}
 use mathlib.Core.Path.{_≡_, refl, sym, ap, _∙_}
-use mathlib.Core.Bool.{Bool, true, false, cond}
+use mathlib.Core.Bool.{Bool, true, false}
 use mathlib.Core.List.{List, [], _∷_, _++_, reverseAux, reverse, append-nil}
 use native.Mathlib.Nat.{not-suc-le-zero, le-of-suc-le-suc}
-use native.Mathlib.Numerals.{add-one}
 use native.Mathlib.Omega.{arith}
 use lib.Dec.{ltb}
-use lib.ListN.{length, take, set, length-append, length-set}
-use lib.Seq.{append-snoc, getD-set-same, getD-set-other, take-all, length-take-le}
+use lib.ListN.{length, take, set, length-append}
+use lib.Seq.{append-snoc, take-all, length-take-le}
 use borrow.Author.Tests.{ltb-true, ltb-false, lt-ltb, le-ltb}
-use Rattle.lists.proofs.Cells.{same-all}
+use Rattle.lists.proofs.Tests.{split, differ}
+use Rattle.lists.proofs.Arrays.{len, push-room, none-held as nothing}
 use Rattle.tapa.specs.declared.Refusal.the-variants.{RowCountOrShape}
 use Rattle.table.specs.declared.Row.{Row}
 use Rattle.table.specs.declared.Rows.{Rows}
 use Rattle.table.specs.declared.Checked.{Checked}
 use Rattle.table.specs.declared.Checked.the-variants.{Accepted, Refused}
-use Rattle.table.specs.Table.{rowsOf, Proper, heldRows, Held, noRows, withRow, withRows, rowsRead, column, firstRows, judgeTable, judgeRows, keptBy, setUpWith, setUpOf}
+use Rattle.table.specs.Table.{pack, unpack, Proper, heldRows, Held, noRows, withRow, withRows, rowsRead, column, firstRows, judgeTable, judgeRows, keptBy, setUpWith, setUpOf}
+use Rattle.table.proofs.Cells.{row-back, exact}
 use Rattle.table.proofs.Judged.{judge-many, judge-reverse, accepted}
 
 -- ---- one row more
 
--- rows below a place do not see what is stored there
-rows-below : (a : List ℕ) (o : List Bool) (i x : ℕ) (y : Bool) (n : ℕ) → n ≤ i → rowsOf (set a i x) (set o i y) n ≡ rowsOf a o n
-rows-below a o i x y zero l = refl
-rows-below a o i x y (suc n) l =
-    rw (getD-set-other a i n x 0 (λ e. omega arith), getD-set-other o i n y false (λ e. omega arith), rows-below a o i x y n (omega arith))
-
 pub with-held : (t : Rows) (r : Row) → Held t → Held (withRow t r)
 unfolding withRow
-with-held t r h = go (ltb (t .count) 16) refl
-  where
-    go : (b : Bool) → ltb (t .count) 16 ≡ b
-        → Held (cond b (record { addresses = set (t .addresses) (t .count) (r .address); opens = set (t .opens) (t .count) (r .opened); count = t .count + 1; more = t .more })
-        (record { addresses = t .addresses; opens = t .opens; count = t .count; more = true }))
-    go true e = record {
-      few = omega (arith, ltb-true (t .count) 16 e);
-      wide = simp length-set (h .wide);
-      long = simp length-set (h .long);
-      free = λ j l. getD-set-other (t .addresses) (t .count) j (r .address) 0 (λ z. omega arith) ∙ h .free j (omega arith);
-      shut = λ j l. getD-set-other (t .opens) (t .count) j (r .opened) false (λ z. omega arith) ∙ h .shut j (omega arith);
-    }
-    go false e = record { few = h .few; wide = h .wide; long = h .long; free = h .free; shut = h .shut }
+with-held t r h =
+    split (ltb (t .count) 16)
+    (λ e. rw e (push-room 16 pack unpack (t .cells) (t .count) h r (pack r) (ltb-true (t .count) 16 e) refl (row-back r) .law))
+    (λ e. rw e h)
 
 module _ (t : Rows) (r : Row) (few : t .count < 16) where
   with-rows : Held t → heldRows (withRow t r) ≡ r ∷ heldRows t
   unfolding withRow
   with-rows h =
-      rw (
-        lt-ltb (t .count) 16 few,
-        add-one (t .count),
-        getD-set-same (t .addresses) (t .count) (r .address) 0 (omega (arith, h .wide)),
-        getD-set-same (t .opens) (t .count) (r .opened) false (omega (arith, h .long)),
-        rows-below (t .addresses) (t .opens) (t .count) (r .address) (r .opened) (t .count) (omega arith),
-      )
+      rw (lt-ltb (t .count) 16 few)
+      (push-room 16 pack unpack (t .cells) (t .count) h r (pack r) few refl (row-back r) .holds
+      ∙ rw (len unpack (t .cells) (t .count), lt-ltb (t .count) 16 few))
 
   with-count : (withRow t r) .count ≡ t .count + 1
   unfolding withRow
@@ -104,7 +86,7 @@ withs-held [] t h = h
 withs-held (r ∷ ys) t h = withs-held ys (withRow t r) (with-held t r h)
 
 pub none-held : Held noRows
-none-held = record { few = omega arith; wide = refl; long = refl; free = λ j l. same-all 16 j 0; shut = λ j l. same-all 16 j false }
+none-held = nothing 16 pack unpack (exact 0) .law
 
 pub read-held : (rows : List Row) → Held (rowsRead rows)
 read-held rows = withs-held rows noRows none-held
@@ -133,11 +115,8 @@ set-up-read rows = ap (λ (c : Checked). record { answer = c; rows = keptBy c (r
 -- rows that are accepted are a table
 pub rows-proper : (t : Rows) → judgeRows t ≡ Accepted → Proper (heldRows t)
 unfolding judgeRows
-rows-proper t e = go (t .more) e
-  where
-    go : (b : Bool) → cond b (Refused RowCountOrShape) (judgeTable (heldRows t)) ≡ Accepted → Proper (heldRows t)
-    go true f = absurd (let z : _≡_ {A = ℕ} 0 1 = cc in omega arith)
-    go false f = accepted (heldRows t) f
+rows-proper t e =
+    split (t .more) (λ p. let z : Refused RowCountOrShape ≡ Accepted = rw p at e in differ (cc)) (λ p. accepted (heldRows t) (rw p at e))
 
 -- what set-up leaves is lawful
 pub kept-held : (c : Checked) (t : Rows) → Held t → Held (keptBy c t)
@@ -149,58 +128,40 @@ set-up-held rows = kept-held (judgeTable rows) (rowsRead rows) (read-held rows)
 
 -- ---- the same said at once
 
-module _ {A : Type 0} (f : Row → A) (d : A) where
-  column-more : (k : ℕ) (zs : List Row) (r : Row) → length zs < k → set (column f d k zs) (length zs) (f r) ≡ column f d k (zs ++ (r ∷ []))
-  column-more zero zs r l = absurd (not-suc-le-zero l)
-  column-more (suc k) [] r l = refl
-  column-more (suc k) (z ∷ zs) r l = ap {B = List A} (λ ys. f z ∷ ys) (column-more k zs r (le-of-suc-le-suc l))
+column-more : (k : ℕ) (zs : List Row) (r : Row) → length zs < k → set (column k zs) (length zs) (pack r) ≡ column k (zs ++ (r ∷ []))
+column-more zero zs r l = absurd (not-suc-le-zero l)
+column-more (suc k) [] r l = refl
+column-more (suc k) (z ∷ zs) r l = ap {B = List ℕ} (λ ys. pack z ∷ ys) (column-more k zs r (le-of-suc-le-suc l))
 
-  column-full : (k : ℕ) (zs : List Row) (r : Row) → k ≤ length zs → column f d k (zs ++ (r ∷ [])) ≡ column f d k zs
-  column-full zero zs r l = refl
-  column-full (suc k) [] r l = absurd (not-suc-le-zero l)
-  column-full (suc k) (z ∷ zs) r l = ap {B = List A} (λ ys. f z ∷ ys) (column-full k zs r (le-of-suc-le-suc l))
+column-full : (k : ℕ) (zs : List Row) (r : Row) → k ≤ length zs → column k (zs ++ (r ∷ [])) ≡ column k zs
+column-full zero zs r l = refl
+column-full (suc k) [] r l = absurd (not-suc-le-zero l)
+column-full (suc k) (z ∷ zs) r l = ap {B = List ℕ} (λ ys. pack z ∷ ys) (column-full k zs r (le-of-suc-le-suc l))
 
-with-next : (t : Rows) (r : Row) → t .count < 16
-    → withRow t r ≡ record { addresses = set (t .addresses) (t .count) (r .address); opens = set (t .opens) (t .count) (r .opened); count = t .count + 1; more = t .more }
-unfolding withRow
-with-next t r few = rw (lt-ltb (t .count) 16 few)
-
-with-full : (t : Rows) (r : Row) → 16 ≤ t .count → withRow t r ≡ record { addresses = t .addresses; opens = t .opens; count = t .count; more = true }
-unfolding withRow
-with-full t r full = rw (le-ltb (t .count) 16 full)
-
-together : (a a′ : List ℕ) (o o′ : List Bool) (n n′ : ℕ) (m m′ : Bool) → a ≡ a′ → o ≡ o′ → n ≡ n′ → m ≡ m′
-    → _≡_ {A = Rows} (record { addresses = a; opens = o; count = n; more = m }) (record { addresses = a′; opens = o′; count = n′; more = m′ })
-together a a′ o o′ n n′ m m′ p q s u = cc
+together : (c c′ : List ℕ) (n n′ : ℕ) (m m′ : Bool) → c ≡ c′ → n ≡ n′ → m ≡ m′
+    → _≡_ {A = Rows} (record { cells = c; count = n; more = m }) (record { cells = c′; count = n′; more = m′ })
+together c c′ n n′ m m′ p s u = cc
 
 -- the first rows of a list and one row more
 first-more : (zs : List Row) (r : Row) → withRow (firstRows zs) r ≡ firstRows (zs ++ (r ∷ []))
-first-more zs r = go (ltb (length zs) 16) refl
+unfolding withRow
+first-more zs r =
+    split (ltb (length zs) 16)
+    (λ e. let l : length zs < 16 = ltb-true (length zs) 16 e in
+    let c : length (take 16 zs) ≡ length zs = ap length (take-all 16 zs (omega arith)) in
+    let d : length (take 16 (zs ++ (r ∷ []))) ≡ length zs + 1 = ap length (take-all 16 (zs ++ (r ∷ [])) (omega (arith, n))) ∙ n in
+    rw (c, e)
+    (together _ _ _ _ _ _ (column-more 16 zs r l) (sym d)
+    (le-ltb 16 (length zs) (omega arith) ∙ sym (le-ltb 16 (length (zs ++ (r ∷ []))) (omega (arith, n))))))
+    (λ e. let l : 16 ≤ length zs = ltb-false (length zs) 16 e in
+    let c : length (take 16 zs) ≡ 16 = length-take-le 16 zs l in
+    let d : length (take 16 (zs ++ (r ∷ []))) ≡ 16 = length-take-le 16 (zs ++ (r ∷ [])) (omega (arith, n)) in
+    rw c
+    (together _ _ _ _ _ _ (sym (column-full 16 zs r l)) (sym d)
+    (sym (lt-ltb 16 (length (zs ++ (r ∷ []))) (omega (arith, n))))))
   where
     n : length (zs ++ (r ∷ [])) ≡ length zs + 1
     n = length-append zs (r ∷ [])
-
-    go : (b : Bool) → ltb (length zs) 16 ≡ b → withRow (firstRows zs) r ≡ firstRows (zs ++ (r ∷ []))
-    go true e =
-        let l : length zs < 16 = ltb-true (length zs) 16 e in
-        let c : length (take 16 zs) ≡ length zs = ap length (take-all 16 zs (omega arith)) in
-        let d : length (take 16 (zs ++ (r ∷ []))) ≡ length zs + 1 = ap length (take-all 16 (zs ++ (r ∷ [])) (omega (arith, n))) ∙ n in
-        with-next (firstRows zs) r (omega arith)
-        ∙ together _ _ _ _ _ _ _ _
-        (ap (λ (k : ℕ). set (column (λ (x : Row). x .address) 0 16 zs) k (r .address)) c ∙ column-more (λ (x : Row). x .address) 0 16 zs r l)
-        (ap (λ (k : ℕ). set (column (λ (x : Row). x .opened) false 16 zs) k (r .opened)) c ∙ column-more (λ (x : Row). x .opened) false 16 zs r l)
-        (ap (λ (k : ℕ). k + 1) c ∙ sym d)
-        (le-ltb 16 (length zs) (omega arith) ∙ sym (le-ltb 16 (length (zs ++ (r ∷ []))) (omega (arith, n))))
-    go false e =
-        let l : 16 ≤ length zs = ltb-false (length zs) 16 e in
-        let c : length (take 16 zs) ≡ 16 = length-take-le 16 zs l in
-        let d : length (take 16 (zs ++ (r ∷ []))) ≡ 16 = length-take-le 16 (zs ++ (r ∷ [])) (omega (arith, n)) in
-        with-full (firstRows zs) r (omega arith)
-        ∙ together _ _ _ _ _ _ _ _
-        (sym (column-full (λ (x : Row). x .address) 0 16 zs r l))
-        (sym (column-full (λ (x : Row). x .opened) false 16 zs r l))
-        (c ∙ sym d)
-        (sym (lt-ltb 16 (length (zs ++ (r ∷ []))) (omega (arith, n))))
 
 first-all : (zs ys : List Row) → withRows (firstRows zs) ys ≡ firstRows (zs ++ ys)
 first-all zs [] = ap firstRows (sym (append-nil zs))

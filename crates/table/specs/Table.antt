@@ -1,11 +1,12 @@
 -- The table of handlers: 'A table is rows of address and open or closed, lent by the caller and read in order.'
-use Prim.Native.Nat.{ℕ, zero, suc, _+_, _≤_}
+use Prim.Native.Nat.{ℕ, zero, suc, _+_, _*_, _/_, _%_, _≤_, _<_}
 use mathlib.Core.Path.{_≡_}
 use mathlib.Core.Bool.{Bool, true, false, not, _&&_, _||_, cond}
 use mathlib.Core.List.{List, [], _∷_}
 use lib.Dec.{eqb, leb, ltb}
 use lib.ListN.{length, getD, replicate, set, take}
-use Rattle.lists.specs.Lists.{checks, count, someOf, changed, All}
+use Rattle.lists.specs.Lists.{one, checks, count, someOf, changed, All}
+use Rattle.lists.specs.Arrays.{held, Holding, Becoming}
 use Rattle.tapa.specs.Address.{categoryOf, subAddressOf, multi}
 use Rattle.tapa.specs.Codes.{eventHandler}
 use Rattle.tapa.specs.declared.Refusal.the-variants.{RowCountOrShape, Repeat, TooManyMulti}
@@ -79,50 +80,51 @@ pub record Proper (rows : List Row) : Type 0 where
   pub once : (h : ℕ) → count (isAt h) rows ≤ 1
   pub multis : count isMulti rows ≤ 4
 
--- ---- the two columns of a table that is held by value
+-- ---- the column of a table that is held by value
+
+-- a row as one number: twice its address, and one more where it is open
+abbrev pub pack : Row → ℕ
+pack r = r .address * 2 + one (r .opened)
+
+abbrev pub unpack : ℕ → Row
+unpack x = record { address = x / 2; opened = eqb (x % 2) 1 }
 
 -- the first n rows, last first
-abbrev pub rowsOf : List ℕ → List Bool → ℕ → List Row
-rowsOf a o zero = []
-rowsOf a o (suc n) = record { address = getD a n 0; opened = getD o n false } ∷ rowsOf a o n
+abbrev pub rowsOf : List ℕ → ℕ → List Row
+rowsOf c n = held unpack c n
 
--- the law of the columns: sixteen places each, of which those past the rows are empty
-pub record Columns (a : List ℕ) (o : List Bool) (n : ℕ) : Type 0 where
+-- the law of a column: sixteen cells, of which those past the rows are zeros
+abbrev pub Column : List ℕ → ℕ → Type 0
+Column c n = Holding 16 pack unpack c n
+
+-- at most sixteen rows, whose addresses have two bytes
+pub record Narrow (c : List ℕ) (n : ℕ) : Type 0 where
   pub few : n ≤ 16
-  pub wide : length a ≡ 16
-  pub long : length o ≡ 16
-  pub free : (j : ℕ) → n ≤ j → getD a j 0 ≡ 0
-  pub shut : (j : ℕ) → n ≤ j → getD o j false ≡ false
+  pub narrow : (j : ℕ) → j < n → getD c j 0 / 2 < 0x10000
 
--- the columns once a handler has become open or closed
-pub record Opened (a : List ℕ) (before after : List Bool) (n h : ℕ) (b : Bool) : Type 0 where
-  pub holds : rowsOf a after n ≡ setOpened h b (rowsOf a before n)
-  pub law : Columns a after n
+-- the column once a handler has become open or closed
+abbrev pub Opened : List ℕ → List ℕ → ℕ → ℕ → Bool → Type 0
+Opened before after n h b = Becoming 16 pack unpack after n (setOpened h b (rowsOf before n))
 
 -- ---- rows by value
 
 abbrev pub heldRows : Rows → List Row
-heldRows t = rowsOf (t .addresses) (t .opens) (t .count)
+heldRows t = rowsOf (t .cells) (t .count)
 
 abbrev pub Held : Rows → Type 0
-Held t = Columns (t .addresses) (t .opens) (t .count)
+Held t = Column (t .cells) (t .count)
 
 abbrev pub noRows : Rows
-noRows = record { addresses = replicate 16 0; opens = replicate 16 false; count = 0; more = false }
+noRows = record { cells = replicate 16 0; count = 0; more = false }
 
--- one row more: in the next place, or, where 16 are there, a note that there was another
+-- one row more: in the next cell, or, where 16 are there, a note that there was another
 unfoldable pub withRow : Rows → Row → Rows
 withRow t r =
     cond (ltb (t .count) 16)
-    (record {
-      addresses = set (t .addresses) (t .count) (r .address);
-      opens = set (t .opens) (t .count) (r .opened);
-      count = t .count + 1;
-      more = t .more;
-    })
-    (record { addresses = t .addresses; opens = t .opens; count = t .count; more = true })
+    (record { cells = set (t .cells) (t .count) (pack r); count = t .count + 1; more = t .more })
+    (record { cells = t .cells; count = t .count; more = true })
 
--- what is said of rows by value: a row that found no place is one too many
+-- what is said of rows by value: a row that found no cell is one too many
 unfoldable pub judgeRows : Rows → Checked
 judgeRows t = checks ((t .more, Refused RowCountOrShape) ∷ []) (judgeTable (heldRows t))
 
@@ -140,17 +142,16 @@ withRows t (r ∷ rows) = withRows (withRow t r) rows
 abbrev pub rowsRead : List Row → Rows
 rowsRead rows = withRows noRows rows
 
--- the same said at once: a column of the first k rows, filled up
-abbrev pub column : {A : Type 0} → (Row → A) → A → ℕ → List Row → List A
-column f d zero rows = []
-column f d (suc k) [] = d ∷ column f d k []
-column f d (suc k) (r ∷ rows) = f r ∷ column f d k rows
+-- the same said at once: the numbers of the first k rows, filled up
+abbrev pub column : ℕ → List Row → List ℕ
+column zero rows = []
+column (suc k) [] = 0 ∷ column k []
+column (suc k) (r ∷ rows) = pack r ∷ column k rows
 
 -- the first sixteen rows, how many they are, and whether there are more
 abbrev pub firstRows : List Row → Rows
 firstRows rows = record {
-  addresses = column (λ (r : Row). r .address) 0 16 rows;
-  opens = column (λ (r : Row). r .opened) false 16 rows;
+  cells = column 16 rows;
   count = length (take 16 rows);
   more = ltb 16 (length rows);
 }

@@ -1,12 +1,12 @@
 // The table of handlers: rows of address and open or closed.
 //
-// The caller lends the rows as a slice of structs. They are read in order and copied into two
-// columns by value, addresses and marks, which are cheap to lend and to carry in a state. The
-// table is then checked: the row count, and in three passes every row's shape, repeats, and the
-// number of multi rows.
+// The caller lends the rows as a slice of structs. They are read in order and copied by value
+// into one column of numbers, which is cheap to lend and to carry in a state: a row's number is
+// twice its address, and one more where it is open. The table is then checked: the row count, and
+// in three passes every row's shape, repeats, and the number of multi rows.
 //
 // `read_rows` and `set_up` are thin, since a slice of structs is proved by hand. All work is in
-// functions over the columns. Look-ups take the columns of any table of at most 16 rows.
+// functions over the column. Look-ups take the column of any table of at most 16 rows.
 //
 // A row of an accepted table names its handler: its sub-address has no top bit.
 use tapa::Refusal;
@@ -14,17 +14,16 @@ ghost use mathlib.Core.Path.{_≡_};
 ghost use Prim.Native.Nat.{_≤_, _<_};
 ghost use lib.ListN.{length, getD, take};
 ghost use Rattle.lists.specs.Lists.{someOf, count as countOf};
-ghost use Rattle.table.specs.Table.{listed, openedAt, Columns, Opened, rowsOf, shaped, misshapen, repeats, isMulti, judgeRows, noRows, withRow, setUpWith, noRow, rowsRead, setUpOf};
+ghost use Rattle.table.specs.Table.{pack, listed, openedAt, Column, Narrow, Opened, rowsOf, shaped, misshapen, repeats, isMulti, judgeRows, noRows, withRow, setUpWith, noRow, rowsRead, setUpOf};
 
 pub struct Row {
     pub address: u16,
     pub opened: bool,
 }
 
-// Up to 16 rows by value, and whether there were more. Places past the rows are empty.
+// Up to 16 rows by value, and whether there were more. Cells past the rows are zeros.
 pub struct Rows {
-    pub addresses: [u16; 16],
-    pub opens: [bool; 16],
+    pub cells: [u32; 16],
     pub count: usize,
     pub more: bool,
 }
@@ -42,12 +41,19 @@ pub struct SetUp {
 
 // ---- rows by value
 
+// A row as a number.
+fn pack_of(row: Row) -> u32
+    ensures { λ r. ⌜ r ≡ pack row ⌝ }
+{
+    let twice = row.address as u32 * 2;
+    if row.opened { twice + 1 } else { twice }
+}
+
 pub fn no_rows() -> Rows
     ensures { λ r. ⌜ r ≡ noRows ⌝ }
 {
     Rows {
-        addresses: [0; 16],
-        opens: [false; 16],
+        cells: [0; 16],
         count: 0,
         more: false,
     }
@@ -60,8 +66,7 @@ pub fn with_row(rows: Rows, row: Row) -> Rows
     let at = rows.count;
     let mut next = rows;
     if at < 16 {
-        next.addresses[at] = row.address;
-        next.opens[at] = row.opened;
+        next.cells[at] = pack_of(row);
         next.count = at + 1;
     } else {
         next.more = true;
@@ -70,60 +75,51 @@ pub fn with_row(rows: Rows, row: Row) -> Rows
 }
 
 // ---- look-up by handler
-//
-// A table is lent as its two columns and their count, also where the addresses alone are read:
-// the contracts speak of its rows.
 
-pub fn is_listed<'a>(
-    addresses: &'a [u16; 16],
-    opens: &'a [bool; 16],
-    count: usize,
-    handler: u16,
-) -> bool
+pub fn is_listed(cells: &[u32; 16], count: usize, handler: u16) -> bool
     requires { ⌜ count ≤ 16 ⌝ }
-    ensures { λ r. ⌜ r ≡ listed handler (rowsOf (now (addresses .entry)) (now (opens .entry)) count) ⌝ }
+    ensures { λ r. ⌜ r ≡ listed handler (rowsOf (now (cells .entry)) count) ⌝ }
 {
+    let wanted = handler as u32;
     let mut i = count;
     while 0 < i {
         i -= 1;
-        if addresses[i] == handler {
+        if cells[i] / 2 == wanted {
             return true;
         }
     }
     false
 }
 
-pub fn is_open<'a>(
-    addresses: &'a [u16; 16],
-    opens: &'a [bool; 16],
-    count: usize,
-    handler: u16,
-) -> bool
+pub fn is_open(cells: &[u32; 16], count: usize, handler: u16) -> bool
     requires { ⌜ count ≤ 16 ⌝ }
-    ensures { λ r. ⌜ r ≡ openedAt handler (rowsOf (now (addresses .entry)) (now (opens .entry)) count) ⌝ }
+    ensures { λ r. ⌜ r ≡ openedAt handler (rowsOf (now (cells .entry)) count) ⌝ }
 {
+    let wanted = handler as u32 * 2 + 1;
     let mut i = count;
     while 0 < i {
         i -= 1;
-        if addresses[i] == handler {
-            if opens[i] {
-                return true;
-            }
+        if cells[i] == wanted {
+            return true;
         }
     }
     false
 }
 
 // Marks a handler's row as open or closed. A handler that has no row changes nothing.
-pub fn set_open(addresses: &[u16; 16], opens: &mut [bool; 16], count: usize, handler: u16, to: bool)
-    requires { ⌜ Columns (now addresses) (now opens) count ⌝ }
-    ensures { λ _. ⌜ Opened (now (addresses .entry)) (now (opens .entry)) (now (opens .exit)) count handler to ⌝ }
+pub fn set_open(cells: &mut [u32; 16], count: usize, handler: u16, to: bool)
+    requires { ⌜ Column (now cells) count ⌝ }
+    ensures { λ _. ⌜ Opened (now (cells .entry)) (now (cells .exit)) count handler to ⌝ }
 {
+    let wanted = handler as u32;
     let mut i = count;
     while 0 < i {
         i -= 1;
-        if addresses[i] == handler {
-            opens[i] = to;
+        if cells[i] / 2 == wanted {
+            cells[i] = pack_of(Row {
+                address: handler,
+                opened: to,
+            });
             return;
         }
     }
@@ -132,7 +128,7 @@ pub fn set_open(addresses: &[u16; 16], opens: &mut [bool; 16], count: usize, han
 // ---- acceptance
 
 // The shape of an address that may stand in a row.
-fn is_shaped(address: u16) -> bool
+fn is_shaped(address: u32) -> bool
     ensures { λ r. ⌜ r ≡ shaped address ⌝ }
 {
     if 7 < address / 256 {
@@ -142,47 +138,49 @@ fn is_shaped(address: u16) -> bool
         return false;
     }
     if address / 256 == 7 {
-        return address == tapa::EVENT_HANDLER;
+        return address == tapa::EVENT_HANDLER as u32;
     }
     true
 }
 
-fn has_misshapen<'a>(addresses: &'a [u16; 16], opens: &'a [bool; 16], count: usize) -> bool
+fn has_misshapen(cells: &[u32; 16], count: usize) -> bool
     requires { ⌜ count ≤ 16 ⌝ }
-    ensures { λ r. ⌜ r ≡ someOf misshapen (rowsOf (now (addresses .entry)) (now (opens .entry)) count) ⌝ }
+    ensures { λ r. ⌜ r ≡ someOf misshapen (rowsOf (now (cells .entry)) count) ⌝ }
 {
     let mut i = count;
     while 0 < i {
         i -= 1;
-        if !is_shaped(addresses[i]) {
+        if !is_shaped(cells[i] / 2) {
             return true;
         }
     }
     false
 }
 
-fn has_repeats<'a>(addresses: &'a [u16; 16], opens: &'a [bool; 16], count: usize) -> bool
-    requires { ⌜ count ≤ 16 ⌝ }
-    ensures { λ r. ⌜ r ≡ repeats (rowsOf (now (addresses .entry)) (now (opens .entry)) count) ⌝ }
+// Of rows that are shaped.
+fn has_repeats(cells: &[u32; 16], count: usize) -> bool
+    requires { ⌜ Narrow (now cells) count ⌝ }
+    ensures { λ r. ⌜ r ≡ repeats (rowsOf (now (cells .entry)) count) ⌝ }
 {
     let mut i = count;
     while 0 < i {
         i -= 1;
-        if is_listed(addresses, opens, i, addresses[i]) {
+        if is_listed(cells, i, (cells[i] / 2) as u16) {
             return true;
         }
     }
     false
 }
 
-fn multi_count<'a>(addresses: &'a [u16; 16], opens: &'a [bool; 16], count: usize) -> usize
-    requires { ⌜ count ≤ 16 ⌝ }
-    ensures { λ r. ⌜ r ≡ countOf isMulti (rowsOf (now (addresses .entry)) (now (opens .entry)) count) ⌝ }
+// Of rows that are shaped.
+fn multi_count(cells: &[u32; 16], count: usize) -> usize
+    requires { ⌜ Narrow (now cells) count ⌝ }
+    ensures { λ r. ⌜ r ≡ countOf isMulti (rowsOf (now (cells .entry)) count) ⌝ }
 {
     let mut multis = 0;
     let mut i = 0;
     while i < count {
-        if tapa::is_multi(addresses[i]) {
+        if tapa::is_multi((cells[i] / 2) as u16) {
             multis += 1;
         }
         i += 1;
@@ -195,8 +193,7 @@ pub fn check(rows: Rows) -> Checked
     ensures { λ r. ⌜ r ≡ judgeRows rows ⌝ }
 {
     let count = rows.count;
-    let addresses = rows.addresses;
-    let opens = rows.opens;
+    let cells = rows.cells;
     if rows.more {
         return Checked::Refused(Refusal::RowCountOrShape);
     }
@@ -206,13 +203,13 @@ pub fn check(rows: Rows) -> Checked
     if 16 < count {
         return Checked::Refused(Refusal::RowCountOrShape);
     }
-    if has_misshapen(&addresses, &opens, count) {
+    if has_misshapen(&cells, count) {
         return Checked::Refused(Refusal::RowCountOrShape);
     }
-    if has_repeats(&addresses, &opens, count) {
+    if has_repeats(&cells, count) {
         return Checked::Refused(Refusal::Repeat);
     }
-    if 4 < multi_count(&addresses, &opens, count) {
+    if 4 < multi_count(&cells, count) {
         return Checked::Refused(Refusal::TooManyMulti);
     }
     Checked::Accepted

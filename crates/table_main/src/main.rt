@@ -79,16 +79,15 @@ fn say_look_ups(done: SetUp)
     requires { ⌜ Held (done .rows) ⌝ }
 {
     let rows = done.rows;
-    let addresses = rows.addresses;
-    let mut opens = rows.opens;
+    let mut cells = rows.cells;
     let count = rows.count;
-    say(bit(table::is_listed(&addresses, &opens, count, 0x0204)));
-    say(bit(table::is_listed(&addresses, &opens, count, 0x0284)));
-    say(bit(table::is_open(&addresses, &opens, count, 0x0204)));
-    table::set_open(&addresses, &mut opens, count, 0x0204, false);
-    say(bit(table::is_open(&addresses, &opens, count, 0x0204)));
-    say(bit(table::is_open(&addresses, &opens, count, 0x0205)));
-    say(bit(table::is_listed(&addresses, &opens, count, 0x0204)));
+    say(bit(table::is_listed(&cells, count, 0x0204)));
+    say(bit(table::is_listed(&cells, count, 0x0284)));
+    say(bit(table::is_open(&cells, count, 0x0204)));
+    table::set_open(&mut cells, count, 0x0204, false);
+    say(bit(table::is_open(&cells, count, 0x0204)));
+    say(bit(table::is_open(&cells, count, 0x0205)));
+    say(bit(table::is_listed(&cells, count, 0x0204)));
 }
 
 fn main() {

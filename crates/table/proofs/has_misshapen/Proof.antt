@@ -1,19 +1,18 @@
 -- `table::has_misshapen` meets its contract: the rows passed are shaped. Assumes nothing.
-use Prim.Native.Nat.{ℕ, _≤_}
-use mathlib.Core.Path.{_≡_, sym, ap, _∙_}
+use mathlib.Core.Path.{sym}
 use native.Mathlib.Omega.{arith}
-use borrow.Author.Needs.{needs}
 use Rattle.lists.specs.Lists.{someOf}
-use Rattle.table.specs.Table.{misshapen, rowsOf}
-use Rattle.table.proofs.Walks.{some-here, some-past}
+use Rattle.lists.proofs.Arrays.{Below, some-here, some-past, walked}
+use Rattle.table.specs.Table.{unpack, misshapen}
+use borrow.Author.Needs.{needs}
 use Rattle.table.proofs.has_misshapen.Statement.{statement}
 use Rattle.table.proofs.has_misshapen.Tie as tie
 
 abbrev Inv-loop : tie.InvT-loop
-Inv-loop addresses opens count i₀ i = (i ≤ count) × (someOf misshapen (rowsOf addresses opens i) ≡ someOf misshapen (rowsOf addresses opens count))
+Inv-loop cells count i₀ i = Below unpack (someOf misshapen) cells count i
 
 abbrev μ-loop : tie.MeasureT-loop
-μ-loop addresses opens count i₀ i = i
+μ-loop cells count i₀ i = i
 
 loop-holds : tie.Need-loop-holds Inv-loop μ-loop
 loop-holds c = search needs
@@ -33,7 +32,7 @@ is-shaped-requires c κs = search needs
 returns : tie.Need-returns Inv-loop μ-loop
 returns c =
     let s = c .before .before .before .before in
-    sym (some-here _ _ (s .loop .i) (search needs) misshapen (rw (sym (c .before .is-shaped .ensures), c .if1 .taken))) ∙ s .loop .inv .1
+    some-here unpack _ (s .loop .i) (search needs) misshapen (s .loop .inv .1) (rw (sym (c .before .is-shaped .ensures), c .if1 .taken))
 
 loop-less : tie.Need-loop-less Inv-loop μ-loop
 loop-less c = search needs
@@ -41,14 +40,12 @@ loop-less c = search needs
 loop-again : tie.Need-loop-again Inv-loop μ-loop
 loop-again c =
     let s = c .before .before .before .before in
-    (search needs, sym (some-past _ _ (s .loop .i) (search needs) misshapen (rw (sym (c .before .is-shaped .ensures), c .if1 .left))) ∙ s .loop .inv .1)
+    (search needs, some-past unpack _ (s .loop .i) (search needs) misshapen (s .loop .inv .1) (rw (sym (c .before .is-shaped .ensures), c .if1 .left)))
 
 returns-2 : tie.Need-returns-2 Inv-loop μ-loop
 returns-2 c =
     let s = c .before in
-    let a = s .before .args in
-    let e : s .loop .i ≡ 0 = omega arith in
-    ap (λ (k : ℕ). someOf misshapen (rowsOf (a .addresses .now) (a .opens .now) k)) (sym e) ∙ s .loop .inv .1
+    walked unpack (someOf misshapen) _ (s .loop .i) (omega arith) (s .loop .inv .1)
 
 pub has-misshapen-spec : {M : Type 1} → statement M
 has-misshapen-spec =

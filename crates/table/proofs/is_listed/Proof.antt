@@ -1,20 +1,17 @@
 -- `table::is_listed` meets its contract: the rows passed are not the handler's. Assumes nothing.
-use Prim.Native.Nat.{ℕ, _≤_}
-use mathlib.Core.Path.{_≡_, sym, ap, _∙_}
 use native.Mathlib.Omega.{arith}
-use borrow.Author.Needs.{needs}
 use borrow.Author.Tests.{eq-eqb, ne-eqb}
-use Rattle.table.specs.Table.{isAt, listed, rowsOf}
-use Rattle.table.proofs.Walks.{some-here, some-past}
+use Rattle.lists.proofs.Arrays.{Below, some-here, some-past, walked}
+use Rattle.table.specs.Table.{unpack, isAt, listed}
+use borrow.Author.Needs.{needs}
 use Rattle.table.proofs.is_listed.Statement.{statement}
 use Rattle.table.proofs.is_listed.Tie as tie
 
 abbrev Inv-loop : tie.InvT-loop
-Inv-loop addresses opens count handler i₀ i =
-    (i ≤ count) × (listed handler (rowsOf addresses opens i) ≡ listed handler (rowsOf addresses opens count))
+Inv-loop cells count handler wanted i₀ i = Below unpack (listed handler) cells count i
 
 abbrev μ-loop : tie.MeasureT-loop
-μ-loop addresses opens count handler i₀ i = i
+μ-loop cells count handler wanted i₀ i = i
 
 loop-holds : tie.Need-loop-holds Inv-loop μ-loop
 loop-holds c = search needs
@@ -31,7 +28,7 @@ element-copy-out-if1 c = search needs
 returns : tie.Need-returns Inv-loop μ-loop
 returns c =
     let s = c .before .before .before in
-    sym (some-here _ _ (s .loop .i) (search needs) (isAt _) (eq-eqb _ _ (c .if1 .taken))) ∙ s .loop .inv .1
+    some-here unpack _ (s .loop .i) (search needs) (isAt _) (s .loop .inv .1) (eq-eqb _ _ (c .if1 .taken))
 
 loop-less : tie.Need-loop-less Inv-loop μ-loop
 loop-less c = search needs
@@ -39,14 +36,12 @@ loop-less c = search needs
 loop-again : tie.Need-loop-again Inv-loop μ-loop
 loop-again c =
     let s = c .before .before .before in
-    (search needs, sym (some-past _ _ (s .loop .i) (search needs) (isAt _) (ne-eqb _ _ (c .if1 .left))) ∙ s .loop .inv .1)
+    (search needs, some-past unpack _ (s .loop .i) (search needs) (isAt _) (s .loop .inv .1) (ne-eqb _ _ (c .if1 .left)))
 
 returns-2 : tie.Need-returns-2 Inv-loop μ-loop
 returns-2 c =
     let s = c .before in
-    let a = s .before .args in
-    let e : s .loop .i ≡ 0 = omega arith in
-    ap (λ (k : ℕ). listed (a .handler) (rowsOf (a .addresses .now) (a .opens .now) k)) (sym e) ∙ s .loop .inv .1
+    walked unpack (listed _) _ (s .loop .i) (omega arith) (s .loop .inv .1)
 
 pub is-listed-spec : {M : Type 1} → statement M
 is-listed-spec =

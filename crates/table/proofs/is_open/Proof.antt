@@ -1,19 +1,23 @@
 -- `table::is_open` meets its contract: the rows passed are not the handler's, or are closed. Assumes nothing.
-use Prim.Native.Nat.{ℕ, _≤_}
-use mathlib.Core.Path.{_≡_, sym, ap, _∙_}
 use native.Mathlib.Omega.{arith}
+use Rattle.lists.proofs.Arrays.{Below, some-here, some-past, walked}
+use Rattle.table.specs.Table.{unpack, isOpenAt, openedAt}
+use Rattle.table.proofs.Cells.{open-at, not-open-at}
 use borrow.Author.Needs.{needs}
-use borrow.Author.Tests.{eq-eqb, ne-eqb}
-use Rattle.table.specs.Table.{isOpenAt, openedAt, rowsOf}
-use Rattle.table.proofs.Walks.{some-here, some-past}
 use Rattle.table.proofs.is_open.Statement.{statement}
 use Rattle.table.proofs.is_open.Tie as tie
 
 abbrev Inv-loop : tie.InvT-loop
-Inv-loop addresses opens count handler i₀ i = (i ≤ count) × (openedAt handler (rowsOf addresses opens i) ≡ openedAt handler (rowsOf addresses opens count))
+Inv-loop cells count handler wanted i₀ i = Below unpack (openedAt handler) cells count i
 
 abbrev μ-loop : tie.MeasureT-loop
-μ-loop addresses opens count handler i₀ i = i
+μ-loop cells count handler wanted i₀ i = i
+
+mul-wanted : tie.Need-mul-wanted Inv-loop μ-loop
+mul-wanted c = search needs
+
+add-wanted : tie.Need-add-wanted Inv-loop μ-loop
+add-wanted c = search needs
 
 loop-holds : tie.Need-loop-holds Inv-loop μ-loop
 loop-holds c = search needs
@@ -27,36 +31,23 @@ mul-if1 c = search needs
 element-copy-out-if1 : tie.Need-element-copy-out-if1 Inv-loop μ-loop
 element-copy-out-if1 c = search needs
 
-element-copy-out-if2 : tie.Need-element-copy-out-if2 Inv-loop μ-loop
-element-copy-out-if2 c = search needs
-
 returns : tie.Need-returns Inv-loop μ-loop
 returns c =
-    let s = c .before .before .before .before .before in
-    sym (some-here _ _ (s .loop .i) (search needs) (isOpenAt _) (rw (eq-eqb _ _ (c .before .before .if1 .taken)) (c .if2 .taken))) ∙ s .loop .inv .1
+    let s = c .before .before .before in
+    some-here unpack _ (s .loop .i) (search needs) (isOpenAt _) (s .loop .inv .1) (open-at _ _ (c .if1 .taken))
 
 loop-less : tie.Need-loop-less Inv-loop μ-loop
 loop-less c = search needs
 
 loop-again : tie.Need-loop-again Inv-loop μ-loop
 loop-again c =
-    let s = c .before .before .before .before .before in
-    (search needs, sym (some-past _ _ (s .loop .i) (search needs) (isOpenAt _) (rw (eq-eqb _ _ (c .before .before .if1 .taken)) (c .if2 .left))) ∙ s .loop .inv .1)
-
-loop-less-2 : tie.Need-loop-less-2 Inv-loop μ-loop
-loop-less-2 c = search needs
-
-loop-again-2 : tie.Need-loop-again-2 Inv-loop μ-loop
-loop-again-2 c =
     let s = c .before .before .before in
-    (search needs, sym (some-past _ _ (s .loop .i) (search needs) (isOpenAt _) (rw (ne-eqb _ _ (c .if1 .left)))) ∙ s .loop .inv .1)
+    (search needs, some-past unpack _ (s .loop .i) (search needs) (isOpenAt _) (s .loop .inv .1) (not-open-at _ _ (c .if1 .left)))
 
 returns-2 : tie.Need-returns-2 Inv-loop μ-loop
 returns-2 c =
     let s = c .before in
-    let a = s .before .args in
-    let e : s .loop .i ≡ 0 = omega arith in
-    ap (λ (k : ℕ). openedAt (a .handler) (rowsOf (a .addresses .now) (a .opens .now) k)) (sym e) ∙ s .loop .inv .1
+    walked unpack (openedAt _) _ (s .loop .i) (omega arith) (s .loop .inv .1)
 
 pub is-open-spec : {M : Type 1} → statement M
 is-open-spec =
@@ -64,14 +55,13 @@ is-open-spec =
     (tie.spec
     Inv-loop
     μ-loop
+    mul-wanted
+    add-wanted
     loop-holds
     sub-i
     mul-if1
     element-copy-out-if1
-    element-copy-out-if2
     returns
     loop-less
     loop-again
-    loop-less-2
-    loop-again-2
     returns-2)

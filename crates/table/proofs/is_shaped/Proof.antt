@@ -2,6 +2,7 @@
 use borrow.Author.Tests.{le-leb, lt-leb, eq-eqb, ne-eqb}
 use Rattle.tapa.specs.Address.{categoryOf, subAddressOf}
 use Rattle.table.specs.Table.{shaped}
+use borrow.Author.Needs.{needs}
 use Rattle.table.proofs.is_shaped.Statement.{statement}
 use Rattle.table.proofs.is_shaped.Tie as tie
 
@@ -13,6 +14,9 @@ returns-2 : tie.Need-returns-2
 unfolding shaped categoryOf subAddressOf
 returns-2 c = simp (le-leb _ _ (c .before .if1 .left), lt-leb _ _ (c .if2 .taken))
 
+cast-result : tie.Need-cast-result
+cast-result c = search needs
+
 returns-3 : tie.Need-returns-3
 unfolding shaped categoryOf subAddressOf
 returns-3 c = simp (le-leb _ _ (c .before .before .if1 .left), le-leb _ _ (c .before .if2 .left), eq-eqb _ _ (c .if3 .taken))
@@ -22,4 +26,6 @@ unfolding shaped categoryOf subAddressOf
 returns-4 c = simp (le-leb _ _ (c .before .before .if1 .left), le-leb _ _ (c .before .if2 .left), ne-eqb _ _ (c .if3 .left))
 
 pub is-shaped-spec : {M : Type 1} → statement M
-is-shaped-spec = tie.close (tie.spec returns returns-2 returns-3 returns-4)
+is-shaped-spec =
+    tie.close
+    (tie.spec returns returns-2 cast-result returns-3 returns-4)

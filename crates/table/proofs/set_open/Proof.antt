@@ -1,20 +1,30 @@
 -- `table::set_open` meets its contract: the rows passed are not the handler's, and stay. Assumes nothing.
-use Prim.Native.Nat.{_≤_}
-use mathlib.Core.Path.{_≡_, refl}
+use Prim.Native.Nat.{ℕ, _-_, _/_}
+use mathlib.Core.Path.{_≡_, refl, sym, ap, _∙_}
+use mathlib.Core.List.{List}
 use native.Mathlib.Omega.{arith}
+use lib.ListN.{getD}
+use borrow.Author.Tests.{eq-eqb, ne-eqb}
+use Rattle.lists.specs.Lists.{find}
+use Rattle.lists.proofs.Arrays.{Below, find-here, find-past, walked}
+use Rattle.table.specs.Table.{unpack, isAt}
+use Rattle.table.proofs.Cells.{opens, opens-none}
 use borrow.Author.Needs.{needs}
-use Rattle.table.proofs.Walks.{Below, below-here, below-past, below-none}
 use Rattle.table.proofs.set_open.Statement.{statement}
 use Rattle.table.proofs.set_open.Tie as tie
 
 abbrev Inv-loop : tie.InvT-loop
-Inv-loop addresses opens₀ count handler to i₀ opens i = (i ≤ count) × (opens ≡ opens₀) × Below addresses opens₀ count handler to i
+Inv-loop cells₀ count handler to wanted i₀ cells i = (cells ≡ cells₀) × Below unpack (find (isAt handler)) cells₀ count i
 
 abbrev μ-loop : tie.MeasureT-loop
-μ-loop addresses opens₀ count handler to i₀ opens i = i
+μ-loop cells₀ count handler to wanted i₀ cells i = i
+
+-- the column is as it was lent
+cell : {m l : List ℕ} (i : ℕ) → m ≡ l → getD l i 0 / 2 ≡ getD m i 0 / 2
+cell i e = sym (ap (λ (c : List ℕ). getD c i 0 / 2) e)
 
 loop-holds : tie.Need-loop-holds Inv-loop μ-loop
-loop-holds c = (search needs, refl, λ m same e. e)
+loop-holds c = (refl, search needs)
 
 sub-i : tie.Need-sub-i Inv-loop μ-loop
 sub-i c = search needs
@@ -25,14 +35,22 @@ mul-if1 c = search needs
 element-copy-out-if1 : tie.Need-element-copy-out-if1 Inv-loop μ-loop
 element-copy-out-if1 c = search needs
 
-element-write-opens : tie.Need-element-write-opens Inv-loop μ-loop
-element-write-opens c = search needs
+pack-of-requires : tie.Need-pack-of-requires Inv-loop μ-loop
+pack-of-requires c κs = search needs
+
+mul-cells : tie.Need-mul-cells Inv-loop μ-loop
+mul-cells c = search needs
+
+element-write-cells : tie.Need-element-write-cells Inv-loop μ-loop
+element-write-cells c = search needs
 
 returns : tie.Need-returns Inv-loop μ-loop
 returns c =
-    let s = c .before .before .before in
-    rw (s .loop .inv .1)
-    (below-here _ _ _ _ _ (s .loop .i) (search needs) (c .if1 .taken) (s .loop .inv .0) (s .before .pre) (s .loop .inv .2))
+    let s = c .before .before .before .before in
+    let a = s .before .args in
+    let k : getD (a .cells .now) (s .loop .i - 1) 0 / 2 ≡ a .handler = cell (s .loop .i - 1) (s .loop .inv .0) ∙ c .before .if1 .taken in
+    let f = find-here unpack _ (s .loop .i) (search needs) (isAt _) (s .loop .inv .1 .1) (eq-eqb _ _ k) in
+    rw (s .loop .inv .0) (opens _ _ _ _ (s .loop .i - 1) _ (s .before .pre) (search needs) (sym f) k (c .pack-of .ensures))
 
 loop-less : tie.Need-loop-less Inv-loop μ-loop
 loop-less c = search needs
@@ -40,14 +58,16 @@ loop-less c = search needs
 loop-again : tie.Need-loop-again Inv-loop μ-loop
 loop-again c =
     let s = c .before .before .before in
-    let a = s .before .args in
-    (search needs, s .loop .inv .1, below-past (a .addresses .now) (a .opens .now) (a .count) (a .handler) (a .to) (s .loop .i) (search needs) (c .if1 .left) (s .loop .inv .2))
+    let k = cell (s .loop .i - 1) (s .loop .inv .0) in (
+      s .loop .inv .0,
+      (search needs, find-past unpack _ (s .loop .i) (search needs) (isAt _) (s .loop .inv .1 .1) (ne-eqb _ _ (λ e. c .if1 .left (sym k ∙ e)))),
+    )
 
 returns-2 : tie.Need-returns-2 Inv-loop μ-loop
 returns-2 c =
     let s = c .before in
-    let e : s .loop .i ≡ 0 = omega arith in
-    rw (s .loop .inv .1) (below-none _ _ _ _ _ (s .loop .i) e (s .before .pre) (s .loop .inv .2))
+    let f = walked unpack (find (isAt (s .before .args .handler))) _ (s .loop .i) (omega arith) (s .loop .inv .1 .1) in
+    rw (s .loop .inv .0) (opens-none _ _ _ _ (s .before .pre) (sym f))
 
 pub set-open-spec : {M : Type 1} → statement M
 set-open-spec =
@@ -59,7 +79,9 @@ set-open-spec =
     sub-i
     mul-if1
     element-copy-out-if1
-    element-write-opens
+    pack-of-requires
+    mul-cells
+    element-write-cells
     returns
     loop-less
     loop-again
