@@ -24,7 +24,7 @@ fn begin() -> Started
     };
     let mut rows = [till; 17];
     rows[1] = module;
-    start::start_from(table::set_up_own(rows, 2))
+    start::start_from(setup::set_up_own(rows, 2))
 }
 
 // Sends a part on: here, as a line of hexadecimal digits.

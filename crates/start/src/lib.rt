@@ -1,6 +1,6 @@
 // The start: a fresh router over a table that is accepted.
 //
-// A program that lends its rows sets the table up with `table::set_up` or `table::set_up_own`, and
+// A program that lends its rows sets the table up with `setup::set_up` or `setup::set_up_own`, and
 // starts here from what that hands back.
 use router::Router;
 use table::Checked;
@@ -47,5 +47,5 @@ pub fn start_from(set: SetUp) -> Started
 pub fn start_with(rows: Rows) -> Started
     ensures { λ r. ⌜ r ≡ startWith rows ⌝ }
 {
-    start_from(table::set_up_with(rows))
+    start_from(setup::set_up_with(rows))
 }

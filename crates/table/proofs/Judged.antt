@@ -1,22 +1,24 @@
 -- The outcomes of a table's checks, each from the tests that lead to it; and what an accepted table is.
 use Prim.Native.Nat.{ℕ, _+_, _*_, _/_, _%_, _≤_, _<_}
-use mathlib.Core.Path.{_≡_, refl, sym, _∙_}
-use mathlib.Core.Bool.{Bool, true, false, not, _&&_, _||_, cond}
+use mathlib.Core.Path.{_≡_, refl, sym, ap, _∙_}
+use mathlib.Core.Bool.{Bool, true, false, not, _&&_, _||_, cond, and-false}
 use mathlib.Core.List.{List, [], _∷_, reverse}
 use native.Mathlib.Omega.{arith}
 use lib.Dec.{eqb, leb, ltb}
 use lib.ListN.{length, length-reverse}
-use borrow.Author.Tests.{lt-ltb, le-ltb, ltb-false, leb-true, eqb-true, eq-eqb, not-false}
+use borrow.Author.Tests.{lt-ltb, le-ltb, ltb-false, leb-true, lt-leb, eqb-true, eq-eqb, ne-eqb, not-false}
 use Rattle.lists.specs.Lists.{one, count, someOf, All}
 use Rattle.lists.proofs.Tests.{or-no}
 use Rattle.lists.proofs.Counts.{none-zero, zero-none, some-reverse, count-reverse}
 use Rattle.tapa.specs.Address.{categoryOf, subAddressOf, handlerOf}
 use Rattle.tapa.specs.Codes.{eventHandler}
+use Rattle.tapa.specs.Said.{refused, says, accepted as acceptedWord}
 use Rattle.tapa.specs.declared.Refusal.{Refusal}
 use Rattle.tapa.specs.declared.Refusal.the-variants.{RowCountOrShape, Repeat, TooManyMulti}
 use Rattle.table.specs.declared.Row.{Row}
 use Rattle.table.specs.declared.Checked.{Checked}
 use Rattle.table.specs.declared.Checked.the-variants.{Accepted, Refused}
+use Rattle.table.specs.Said.{saidChecked}
 use Rattle.table.specs.Table.{isAt, listed, shaped, misshapen, isMulti, repeats, judgeTable, Proper}
 
 module _ (rows : List Row) where
@@ -46,6 +48,43 @@ module _ (rows : List Row) where
         pub judge-accepted : count isMulti rows ≤ 4 → judgeTable rows ≡ Accepted
         unfolding judgeTable
         judge-accepted h = rw (le-ltb (length rows) 1 some, le-ltb 16 (length rows) few, shapes, once, le-ltb 4 (count isMulti rows) h)
+
+-- ---- the same in the page's numbers: 'row count, then each row's shape (11), repeats (12), multi count (13)'
+
+-- 'category at most 7; sub-address at most 127; category 07 only as '0700''
+pub category-over : (a : ℕ) → 7 < categoryOf a → shaped a ≡ false
+unfolding shaped
+category-over a h = rw (lt-leb (categoryOf a) 7 h)
+
+pub sub-address-over : (a : ℕ) → 127 < subAddressOf a → shaped a ≡ false
+unfolding shaped
+sub-address-over a h = rw (lt-leb (subAddressOf a) 127 h, and-false)
+
+pub other-event-address : (a : ℕ) → categoryOf a ≡ 7 → (a ≡ 0x0700 → ⊥) → shaped a ≡ false
+unfolding shaped
+other-event-address a e n = rw (eq-eqb (categoryOf a) 7 e, ne-eqb a 0x0700 n, and-false, and-false)
+
+module _ (rows : List Row) where
+  pub says-none : length rows < 1 → saidChecked (judgeTable rows) ≡ refused 11
+  says-none h = ap saidChecked (judge-none rows h)
+
+  pub says-many : 16 < length rows → saidChecked (judgeTable rows) ≡ refused 11
+  says-many h = ap saidChecked (judge-many rows h)
+
+  module _ (some : 1 ≤ length rows) (few : length rows ≤ 16) where
+    pub says-shape : someOf misshapen rows ≡ true → saidChecked (judgeTable rows) ≡ refused 11
+    says-shape e = ap saidChecked (judge-shape rows some few e)
+
+    module _ (shapes : someOf misshapen rows ≡ false) where
+      pub says-repeat : repeats rows ≡ true → saidChecked (judgeTable rows) ≡ refused 12
+      says-repeat e = ap saidChecked (judge-repeat rows some few shapes e)
+
+      module _ (once : repeats rows ≡ false) where
+        pub says-multi : 4 < count isMulti rows → saidChecked (judgeTable rows) ≡ refused 13
+        says-multi h = ap saidChecked (judge-multi rows some few shapes once h)
+
+        pub says-accepted : count isMulti rows ≤ 4 → saidChecked (judgeTable rows) ≡ says acceptedWord []
+        says-accepted h = ap saidChecked (judge-accepted rows some few shapes once h)
 
 -- ---- repeats are counts over one
 
@@ -92,14 +131,14 @@ never : (f : Bool) (r : Checked) (rest : Checked) → (r ≡ Accepted → ⊥) �
 never true r rest n e = absurd (n e)
 never false r rest n e = (refl, e)
 
-refused : (r : Refusal) → Refused r ≡ Accepted → ⊥
-refused r e = let z : _≡_ {A = ℕ} 0 1 = cc in omega arith
+not-accepted : (r : Refusal) → Refused r ≡ Accepted → ⊥
+not-accepted r e = let z : _≡_ {A = ℕ} 0 1 = cc in omega arith
 
 -- an accepted table has a row
 pub has-row : (rows : List Row) → judgeTable rows ≡ Accepted → 1 ≤ length rows
 unfolding judgeTable
 has-row rows e =
-    let a = never (ltb (length rows) 1 || ltb 16 (length rows)) _ _ (refused RowCountOrShape) e in
+    let a = never (ltb (length rows) 1 || ltb 16 (length rows)) _ _ (not-accepted RowCountOrShape) e in
     ltb-false (length rows) 1 (or-no (ltb (length rows) 1) (ltb 16 (length rows)) (a .0) .0)
 
 pub none-proper : Proper []
@@ -109,10 +148,10 @@ none-proper = record { few = omega arith; shapes = tt; once = λ h. omega arith;
 pub accepted : (rows : List Row) → judgeTable rows ≡ Accepted → Proper rows
 unfolding judgeTable
 accepted rows e =
-    let a = never (ltb (length rows) 1 || ltb 16 (length rows)) _ _ (refused RowCountOrShape) e in
-    let b = never (someOf misshapen rows) _ _ (refused RowCountOrShape) (a .1) in
-    let c = never (repeats rows) _ _ (refused Repeat) (b .1) in
-    let d = never (ltb 4 (count isMulti rows)) _ _ (refused TooManyMulti) (c .1) in
+    let a = never (ltb (length rows) 1 || ltb 16 (length rows)) _ _ (not-accepted RowCountOrShape) e in
+    let b = never (someOf misshapen rows) _ _ (not-accepted RowCountOrShape) (a .1) in
+    let c = never (repeats rows) _ _ (not-accepted Repeat) (b .1) in
+    let d = never (ltb 4 (count isMulti rows)) _ _ (not-accepted TooManyMulti) (c .1) in
     let n = or-no (ltb (length rows) 1) (ltb 16 (length rows)) (a .0) in
     record {
       few = ltb-false 16 (length rows) (n .1);

@@ -11,11 +11,13 @@ use lib.Seq.{append-snoc, take-all, length-take-le}
 use borrow.Author.Tests.{ltb-true, ltb-false, lt-ltb, le-ltb}
 use Rattle.lists.proofs.Tests.{split, differ}
 use Rattle.lists.proofs.Arrays.{len, push-room, none-held as nothing}
+use Rattle.tapa.specs.Said.{refused}
 use Rattle.tapa.specs.declared.Refusal.the-variants.{RowCountOrShape}
 use Rattle.table.specs.declared.Row.{Row}
 use Rattle.table.specs.declared.Rows.{Rows}
 use Rattle.table.specs.declared.Checked.{Checked}
 use Rattle.table.specs.declared.Checked.the-variants.{Accepted, Refused}
+use Rattle.table.specs.Said.{saidChecked}
 use Rattle.table.specs.Table.{pack, unpack, Proper, heldRows, Held, noRows, withRow, withRows, rowsRead, column, firstRows, judgeTable, judgeRows, keptBy, setUpWith, setUpOf}
 use Rattle.table.proofs.Cells.{row-back, exact}
 use Rattle.table.proofs.Judged.{judge-many, judge-reverse, accepted}
@@ -117,6 +119,11 @@ pub rows-proper : (t : Rows) → judgeRows t ≡ Accepted → Proper (heldRows t
 unfolding judgeRows
 rows-proper t e =
     split (t .more) (λ p. let z : Refused RowCountOrShape ≡ Accepted = rw p at e in differ (cc)) (λ p. accepted (heldRows t) (rw p at e))
+
+-- a row too many is a wrong row count
+pub says-more : (t : Rows) → t .more ≡ true → saidChecked (judgeRows t) ≡ refused 11
+unfolding judgeRows
+says-more t e = rw e
 
 -- what set-up leaves is lawful
 pub kept-held : (c : Checked) (t : Rows) → Held t → Held (keptBy c t)

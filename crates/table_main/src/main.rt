@@ -40,7 +40,7 @@ fn say(number: u8) {
 }
 
 fn say_set_up(rows: [Row; 17], count: usize) {
-    let done = table::set_up_own(rows, count);
+    let done = setup::set_up_own(rows, count);
     let answer = done.answer;
     match answer {
         Checked::Accepted => say(0),
@@ -94,5 +94,5 @@ fn main() {
     let rows = plenty();
     say_rows_and_shapes(rows);
     say_repeats_and_multi(rows);
-    say_look_ups(table::set_up_own(rows, 16));
+    say_look_ups(setup::set_up_own(rows, 16));
 }

@@ -13,25 +13,10 @@ Inv-loop cells count handler wanted i₀ i = Below unpack (listed handler) cells
 abbrev μ-loop : tie.MeasureT-loop
 μ-loop cells count handler wanted i₀ i = i
 
-loop-holds : tie.Need-loop-holds Inv-loop μ-loop
-loop-holds c = search needs
-
-sub-i : tie.Need-sub-i Inv-loop μ-loop
-sub-i c = search needs
-
-mul-if1 : tie.Need-mul-if1 Inv-loop μ-loop
-mul-if1 c = search needs
-
-element-copy-out-if1 : tie.Need-element-copy-out-if1 Inv-loop μ-loop
-element-copy-out-if1 c = search needs
-
 returns : tie.Need-returns Inv-loop μ-loop
 returns c =
     let s = c .before .before .before in
     some-here unpack _ (s .loop .i) (search needs) (isAt _) (s .loop .inv .1) (eq-eqb _ _ (c .if1 .taken))
-
-loop-less : tie.Need-loop-less Inv-loop μ-loop
-loop-less c = search needs
 
 loop-again : tie.Need-loop-again Inv-loop μ-loop
 loop-again c =
@@ -46,14 +31,5 @@ returns-2 c =
 pub is-listed-spec : {M : Type 1} → statement M
 is-listed-spec =
     tie.close
-    (tie.spec
-    Inv-loop
-    μ-loop
-    loop-holds
-    sub-i
-    mul-if1
-    element-copy-out-if1
-    returns
-    loop-less
-    loop-again
+    (tie.spec Inv-loop μ-loop (λ c. search needs) (λ c. search needs) (λ c. search needs) (λ c. search needs) returns (λ c. search needs) loop-again
     returns-2)

@@ -4,15 +4,6 @@ use borrow.Author.Needs.{needs}
 use Rattle.table.proofs.pack_of.Statement.{statement}
 use Rattle.table.proofs.pack_of.Tie as tie
 
-cast-twice : tie.Need-cast-twice
-cast-twice c = search needs
-
-mul-twice : tie.Need-mul-twice
-mul-twice c = search needs
-
-add-result : tie.Need-add-result
-add-result c = search needs
-
 returns : tie.Need-returns
 returns c = rw (c .if1 .taken)
 
@@ -22,4 +13,4 @@ returns-2 c = rw (c .if1 .left) (omega arith)
 pub pack-of-spec : {M : Type 1} → statement M
 pack-of-spec =
     tie.close
-    (tie.spec cast-twice mul-twice add-result returns returns-2)
+    (tie.spec (λ c. search needs) (λ c. search needs) (λ c. search needs) returns returns-2)

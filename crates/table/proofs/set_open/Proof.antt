@@ -26,24 +26,6 @@ cell i e = sym (ap (λ (c : List ℕ). getD c i 0 / 2) e)
 loop-holds : tie.Need-loop-holds Inv-loop μ-loop
 loop-holds c = (refl, search needs)
 
-sub-i : tie.Need-sub-i Inv-loop μ-loop
-sub-i c = search needs
-
-mul-if1 : tie.Need-mul-if1 Inv-loop μ-loop
-mul-if1 c = search needs
-
-element-copy-out-if1 : tie.Need-element-copy-out-if1 Inv-loop μ-loop
-element-copy-out-if1 c = search needs
-
-pack-of-requires : tie.Need-pack-of-requires Inv-loop μ-loop
-pack-of-requires c κs = search needs
-
-mul-cells : tie.Need-mul-cells Inv-loop μ-loop
-mul-cells c = search needs
-
-element-write-cells : tie.Need-element-write-cells Inv-loop μ-loop
-element-write-cells c = search needs
-
 returns : tie.Need-returns Inv-loop μ-loop
 returns c =
     let s = c .before .before .before .before in
@@ -51,9 +33,6 @@ returns c =
     let k : getD (a .cells .now) (s .loop .i - 1) 0 / 2 ≡ a .handler = cell (s .loop .i - 1) (s .loop .inv .0) ∙ c .before .if1 .taken in
     let f = find-here unpack _ (s .loop .i) (search needs) (isAt _) (s .loop .inv .1 .1) (eq-eqb _ _ k) in
     rw (s .loop .inv .0) (opens _ _ _ _ (s .loop .i - 1) _ (s .before .pre) (search needs) (sym f) k (c .pack-of .ensures))
-
-loop-less : tie.Need-loop-less Inv-loop μ-loop
-loop-less c = search needs
 
 loop-again : tie.Need-loop-again Inv-loop μ-loop
 loop-again c =
@@ -72,17 +51,5 @@ returns-2 c =
 pub set-open-spec : {M : Type 1} → statement M
 set-open-spec =
     tie.close
-    (tie.spec
-    Inv-loop
-    μ-loop
-    loop-holds
-    sub-i
-    mul-if1
-    element-copy-out-if1
-    pack-of-requires
-    mul-cells
-    element-write-cells
-    returns
-    loop-less
-    loop-again
-    returns-2)
+    (tie.spec Inv-loop μ-loop loop-holds (λ c. search needs) (λ c. search needs) (λ c. search needs) (λ c κs. search needs) (λ c. search needs)
+    (λ c. search needs) returns (λ c. search needs) loop-again returns-2)

@@ -5,18 +5,6 @@ use borrow.Author.Needs.{needs}
 use Rattle.table.proofs.with_row.Statement.{statement}
 use Rattle.table.proofs.with_row.Tie as tie
 
-pack-of-requires : tie.Need-pack-of-requires
-pack-of-requires c κs = search needs
-
-mul-next : tie.Need-mul-next
-mul-next c = search needs
-
-element-write-next : tie.Need-element-write-next
-element-write-next c = search needs
-
-add-next : tie.Need-add-next
-add-next c = search needs
-
 returns : tie.Need-returns
 unfolding withRow
 returns c = simp (lt-ltb _ _ (c .before .if1 .taken), c .pack-of .ensures)
@@ -28,4 +16,4 @@ returns-2 c = simp (le-ltb _ _ (c .if1 .left))
 pub with-row-spec : {M : Type 1} → statement M
 with-row-spec =
     tie.close
-    (tie.spec pack-of-requires mul-next element-write-next add-next returns returns-2)
+    (tie.spec (λ c κs. search needs) (λ c. search needs) (λ c. search needs) (λ c. search needs) returns returns-2)

@@ -1,4 +1,4 @@
--- `table::lend` meets its contract: a walk of its MIR, by hand. The first rows of the local array are lent as a `&[Row]`, for a lifetime that is made for the call and ended after it, when the memory comes back. All that the proof knows of `set_up` is that it meets its contract.
+-- `setup::lend` meets its contract: a walk of its MIR, by hand. The first rows of the local array are lent as a `&[Row]`, for a lifetime that is made for the call and ended after it, when the memory comes back. All that the proof knows of `set_up` is that it meets its contract.
 --     lies, cell     the array's cell in memory is what can be lent, and what comes back is the cell
 -- Assumes nothing.
 use mathlib.Core.Path.{_≡_, refl, sym}
@@ -46,22 +46,22 @@ use denote.Triple.Table.{entered, cited}
 use denote.Triple.Walked.{says, needs, Stays, stay-none, walkOf, goes-none, Walks, ends-at, walked, walk-meets}
 use denote.Exit.{yes}
 use denote.Triple.Clauses.{ensured, lasts}
 use Rattle.table.specs.Table.{setUpOf}
 use Rattle.table.specs.declared.Row.{Row}
 use Rattle.table.specs.declared.SetUp.{SetUp}
-use Rattle.table.proofs.Part.{Others, front, whole}
+use Rattle.setup.proofs.Part.{Others, front, whole}
 use Rattle.table.proofs.Row as T
 use Rattle.table.proofs.Row.Laws as T′
 use Rattle.table.proofs.SetUp as Z
 use Rattle.table.proofs.SetUp.Laws as Z′
-use Rattle.table.proofs.set_up as set-up
-use Rattle.table.proofs.set_up.Symbol as set-up-def
-use Rattle.table.proofs.set_up.Symbol.{name as #table·set-up}
-use Rattle.table.proofs.set_up.Met as set-up-thm
-use Rattle.table.proofs.lend.Key.{name as #table·lend}
-use Rattle.table.proofs.lend as f
-use Rattle.table.proofs.lend.Statement as stated
-use Rattle.table.proofs.lend.Code as code
+use Rattle.setup.proofs.set_up as set-up
+use Rattle.setup.proofs.set_up.Symbol as set-up-def
+use Rattle.setup.proofs.set_up.Symbol.{name as #setup·set-up}
+use Rattle.setup.proofs.set_up.Met as set-up-thm
+use Rattle.setup.proofs.lend.Key.{name as #setup·lend}
+use Rattle.setup.proofs.lend as f
+use Rattle.setup.proofs.lend.Statement as stated
+use Rattle.setup.proofs.lend.Code as code
 
 -- the type of a row, of the array, and of the slice that is lent
 abbrev R : RattleType
@@ -144,7 +144,7 @@ module _ {M : Type 1} (𝓤 : URA M) (H : Heap 𝓤) (A : Atoms 𝓤) (W : Given
       suffices ! _ (ends-at 𝓤 H A f.ended stayed (f.clauses 𝓤 H A mem run) W ((tt, tt, tt, (xs, (n, tt)), vals), tt) u z (tt, (tt, tt)) (tt, (tt, tt))) $ says ! e $
       nothing ! $ owned ! usize (Is usize) (uint-makes 𝓤 H A W w64) n _ (refl, fits) $ fjoin ! $ owned ! Rs (Is Rs) (array-makes 𝓤 H A W R (LL.makes T.the-type T′.the-plain 𝓤 H A) 17) xs _ is $ fjoin ! $ nothing ! $ done !
 
-  module _ (C : Calls 𝓤 H) (Λ : Loops 𝓤 H) (fm : FmC 𝓤 H (W .laws) C) (known : Triple 𝓤 (C #table·set-up) (Sets 𝓤 H A mem run)) where
+  module _ (C : Calls 𝓤 H) (Λ : Loops 𝓤 H) (fm : FmC 𝓤 H (W .laws) C) (known : Triple 𝓤 (C #setup·set-up) (Sets 𝓤 H A mem run)) where
     walk : n ≤ 17 → ent 𝓤 (onEntry 𝓤 H A f.signature tt tt (xs, (n, tt)) vals) (WpFn 𝓤 H C Λ code.function (both ∷ vint w64 n ∷ []) Post)
     walk few =
         qed W (raw (onEntry 𝓤 H A f.signature tt tt (xs, (n, tt)) vals) ∷ []) ∵ enter ! C Λ code.function (both ∷ vint w64 n ∷ []) _ $
@@ -189,7 +189,7 @@ module _ {M : Type 1} (𝓤 : URA M) (H : Heap 𝓤) (A : Atoms 𝓤) (W : Given
         room : Room R (length ys)
         room = (omega (arith, many, few), omega (arith, many, few))
 
-module _ {M : Type 1} (𝓤 : URA M) (H : Heap 𝓤) (A : Atoms 𝓤) (W : Given 𝓤 H A) (mem : Memory → SProp 𝓤) (run : Routine → Fun 𝓤) (𝓣 : Tables 𝓤 H) (known : Triple 𝓤 (𝓣 .C #table·set-up) (Sets 𝓤 H A mem run)) where
+module _ {M : Type 1} (𝓤 : URA M) (H : Heap 𝓤) (A : Atoms 𝓤) (W : Given 𝓤 H A) (mem : Memory → SProp 𝓤) (run : Routine → Fun 𝓤) (𝓣 : Tables 𝓤 H) (known : Triple 𝓤 (𝓣 .C #setup·set-up) (Sets 𝓤 H A mem run)) where
   walks : Walks 𝓤 H A f.ended stayed (WpFn 𝓤 H (𝓣 .C) (𝓣 .Λ) code.function) (f.clauses 𝓤 H A mem run)
   walks = walked 𝓤 H A f.ended stayed (f.clauses 𝓤 H A mem run) (WpFn 𝓤 H (𝓣 .C) (𝓣 .Λ) code.function) (λ κs. (array-vals row-vals, (uint-vals w64, tt))) (λ κs. (array-tells R row-vals (LL.tells T.the-type T′.the-laws) 17, (uint-tells w64, tt)))
       (λ κs qs bounds a g are. needs 𝓤 _ _ (walk 𝓤 H A W mem run (a .0) (a .1 .0) (are .0) (are .1 .0 .1) (𝓣 .C) (𝓣 .Λ) (fmOf 𝓤 H (W .laws) 𝓣) known))
@@ -201,6 +201,6 @@ pub lend-spec : {M : Type 1} → stated.statement M
 unfolding code.routine tablesOf
 lend-spec 𝓤 H 𝓜 𝓖 𝓡 =
     entered 𝓤 H (tripleOf 𝓤 H (𝓖 .A) f.signature (f.spec 𝓤 H (𝓖 .A) (𝓜 .mem) (𝓡 .run)))
-    (tables 𝓤 H 𝓜 𝓡 code.env .C) (tables 𝓤 H 𝓜 𝓡 code.env .Λ) #table·lend code.function (code.unfolded 𝓤 H 𝓜 𝓡)
+    (tables 𝓤 H 𝓜 𝓡 code.env .C) (tables 𝓤 H 𝓜 𝓡 code.env .Λ) #setup·lend code.function (code.unfolded 𝓤 H 𝓜 𝓡)
     (meets 𝓤 H (𝓖 .A) (givenOf 𝓤 H 𝓜 𝓖) (𝓜 .mem) (𝓡 .run) (tablesOf 𝓤 H 𝓜 (tables 𝓤 H 𝓜 𝓡 code.env))
-    (cited 𝓤 H (Sets 𝓤 H (𝓖 .A) (𝓜 .mem) (𝓡 .run)) 𝓜 𝓡 code.env #table·set-up set-up-def.routine code.calls-table·set-up (set-up-thm.met 𝓤 H 𝓜 𝓖 𝓡)))
+    (cited 𝓤 H (Sets 𝓤 H (𝓖 .A) (𝓜 .mem) (𝓡 .run)) 𝓜 𝓡 code.env #setup·set-up set-up-def.routine code.calls-setup·set-up (set-up-thm.met 𝓤 H 𝓜 𝓖 𝓡)))

@@ -1,23 +1,14 @@
--- `table::set_up_with` meets its contract: the rows stay by what `check` answers. Assumes nothing.
+-- `setup::set_up_with` meets its contract: the rows stay by what `check` answers. Assumes nothing.
 use mathlib.Core.Path.{_≡_, sym, ap, _∙_}
 use borrow.Author.Needs.{needs}
 use Rattle.table.specs.declared.Checked.{Checked}
 use Rattle.table.specs.declared.Rows.{Rows}
 use Rattle.table.specs.Table.{judgeRows, keptBy, setUpWith}
-use Rattle.table.proofs.set_up_with.Statement.{statement}
-use Rattle.table.proofs.set_up_with.Tie as tie
-
-check-requires : tie.Need-check-requires
-check-requires c κs = search needs
+use Rattle.setup.proofs.set_up_with.Statement.{statement}
+use Rattle.setup.proofs.set_up_with.Tie as tie
 
 enum-told : tie.Need-enum-told
 enum-told c = search needs
-
-enum-told-2 : tie.Need-enum-told-2
-enum-told-2 c = search needs
-
-no-rows-requires : tie.Need-no-rows-requires
-no-rows-requires c κs = search needs
 
 -- an answer with the rows that it leaves
 leaves : (t u : Rows) (r : Checked) → r ≡ judgeRows t → u ≡ keptBy r t → record { answer = r; rows = u } ≡ setUpWith t
@@ -36,4 +27,5 @@ returns-2 c =
 
 pub set-up-with-spec : {M : Type 1} → statement M
 set-up-with-spec =
-    tie.close (tie.spec check-requires enum-told enum-told-2 no-rows-requires returns returns-2)
+    tie.close
+    (tie.spec (λ c κs. search needs) enum-told (λ c. search needs) (λ c κs. search needs) returns returns-2)

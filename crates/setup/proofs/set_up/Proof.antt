@@ -1,4 +1,4 @@
--- `table::set_up` meets its contract: a walk of its MIR, by hand. The slice is passed on to `read_rows`, and the rows by value to `set_up_with`. All that the proof knows of the two is that each meets its contract.
+-- `setup::set_up` meets its contract: a walk of its MIR, by hand. The slice is passed on to `read_rows`, and the rows by value to `set_up_with`. All that the proof knows of the two is that each meets its contract.
 -- The slice can be copied: `read_rows` is passed a copy of what it owns, and the lifetime's token comes back from the call.
 -- Assumes nothing.
 use mathlib.Core.Path.{_≡_, refl, ap, _∙_}
@@ -33,28 +33,28 @@ use denote.Triple.Table.{entered, cited}
 use denote.Triple.Walked.{says, Stays, stay-none-slice, walkOf, goes-none-slice, Walks, ends-at, walked, walk-meets}
 use denote.Exit.{yes}
 use denote.Triple.Clauses.{ensured, lasts}
 use Rattle.table.specs.Table.{rowsRead, setUpWith, setUpOf}
 use Rattle.table.specs.declared.Row.{Row}
 use Rattle.table.specs.declared.Rows.{Rows}
 use Rattle.table.specs.declared.SetUp.{SetUp}
 use Rattle.table.proofs.Read.{set-up-read}
 use Rattle.table.proofs.Row as T
 use Rattle.table.proofs.Rows as S
 use Rattle.table.proofs.Rows.Laws as S′
 use Rattle.table.proofs.SetUp as Z
 use Rattle.table.proofs.SetUp.Laws as Z′
-use Rattle.table.proofs.read_rows as read-rows
-use Rattle.table.proofs.read_rows.Symbol as read-rows-def
-use Rattle.table.proofs.read_rows.Symbol.{name as #table·read-rows}
-use Rattle.table.proofs.read_rows.Met as read-rows-thm
-use Rattle.table.proofs.set_up_with as set-up-with
-use Rattle.table.proofs.set_up_with.Symbol as set-up-with-def
-use Rattle.table.proofs.set_up_with.Symbol.{name as #table·set-up-with}
-use Rattle.table.proofs.set_up_with.Met as set-up-with-thm
-use Rattle.table.proofs.set_up.Key.{name as #table·set-up}
-use Rattle.table.proofs.set_up as f
-use Rattle.table.proofs.set_up.Statement as stated
-use Rattle.table.proofs.set_up.Code as code
+use Rattle.setup.proofs.read_rows as read-rows
+use Rattle.setup.proofs.read_rows.Symbol as read-rows-def
+use Rattle.setup.proofs.read_rows.Symbol.{name as #setup·read-rows}
+use Rattle.setup.proofs.read_rows.Met as read-rows-thm
+use Rattle.setup.proofs.set_up_with as set-up-with
+use Rattle.setup.proofs.set_up_with.Symbol as set-up-with-def
+use Rattle.setup.proofs.set_up_with.Symbol.{name as #setup·set-up-with}
+use Rattle.setup.proofs.set_up_with.Met as set-up-with-thm
+use Rattle.setup.proofs.set_up.Key.{name as #setup·set-up}
+use Rattle.setup.proofs.set_up as f
+use Rattle.setup.proofs.set_up.Statement as stated
+use Rattle.setup.proofs.set_up.Code as code
 
 abbrev R : RattleType
 R = T.the-row
@@ -110,7 +110,7 @@ module _ {M : Type 1} (𝓤 : URA M) (H : Heap 𝓤) (A : Atoms 𝓤) (W : Given
       suffices ! _ (ends-at 𝓤 H A f.ended stayed (f.clauses 𝓤 H A mem run) W (((κ, tt), (q, tt), tt, (s, tt), (v ∷ [], tt)), tt) u z (tt, tt) (tt, tt)) $ says ! e $
       move ! (1 ∷ []) $ frame ! $ nothing ! $ move ! (2 ∷ 0 ∷ []) $ fjoin ! $ frame ! $ done !
 
-  module _ (C : Calls 𝓤 H) (Λ : Loops 𝓤 H) (fm : FmC 𝓤 H (W .laws) C) (known-read : Triple 𝓤 (C #table·read-rows) (Reads 𝓤 H A mem run)) (known-with : Triple 𝓤 (C #table·set-up-with) (With 𝓤 H A mem run)) where
+  module _ (C : Calls 𝓤 H) (Λ : Loops 𝓤 H) (fm : FmC 𝓤 H (W .laws) C) (known-read : Triple 𝓤 (C #setup·read-rows) (Reads 𝓤 H A mem run)) (known-with : Triple 𝓤 (C #setup·set-up-with) (With 𝓤 H A mem run)) where
     walk : Is (ShrSlice (named 0) κ R) s (v ∷ []) → ent 𝓤 (onEntry 𝓤 H A f.signature (κ, tt) (q, tt) (s, tt) (v ∷ [], tt)) (WpFn 𝓤 H C Λ code.function (v ∷ []) Post)
     walk p =
         qed W (raw (onEntry 𝓤 H A f.signature (κ, tt) (q, tt) (s, tt) (v ∷ [], tt)) ∷ []) ∵ enter ! C Λ code.function (v ∷ []) _ $
@@ -133,7 +133,7 @@ module _ {M : Type 1} (𝓤 : URA M) (H : Heap 𝓤) (A : Atoms 𝓤) (W : Given
         by ! (exits z u′ (e′ ∙ ap setUpWith e ∙ set-up-read (s .now))))))))))))))
 
 module _ {M : Type 1} (𝓤 : URA M) (H : Heap 𝓤) (A : Atoms 𝓤) (W : Given 𝓤 H A) (mem : Memory → SProp 𝓤) (run : Routine → Fun 𝓤) (𝓣 : Tables 𝓤 H)
-    (known-read : Triple 𝓤 (𝓣 .C #table·read-rows) (Reads 𝓤 H A mem run)) (known-with : Triple 𝓤 (𝓣 .C #table·set-up-with) (With 𝓤 H A mem run)) where
+    (known-read : Triple 𝓤 (𝓣 .C #setup·read-rows) (Reads 𝓤 H A mem run)) (known-with : Triple 𝓤 (𝓣 .C #setup·set-up-with) (With 𝓤 H A mem run)) where
   walks : Walks 𝓤 H A f.ended stayed (WpFn 𝓤 H (𝓣 .C) (𝓣 .Λ) code.function) (f.clauses 𝓤 H A mem run)
   walks = walked 𝓤 H A f.ended stayed (f.clauses 𝓤 H A mem run) (WpFn 𝓤 H (𝓣 .C) (𝓣 .Λ) code.function) (λ κs. (slice-vals, tt)) (λ κs. (shr-slice-tells (named 0) (κs .0) R, tt))
       (λ κs qs bounds a g are. via 𝓤 _ (fst∗ 𝓤 _ (emp 𝓤)) (walk 𝓤 H A W mem run (κs .0) (qs .0) (a .0) (𝓣 .C) (𝓣 .Λ) (fmOf 𝓤 H (W .laws) 𝓣) known-read known-with (are .0)))
@@ -145,7 +145,7 @@ pub set-up-spec : {M : Type 1} → stated.statement M
 unfolding code.routine tablesOf
 set-up-spec 𝓤 H 𝓜 𝓖 𝓡 =
     entered 𝓤 H (tripleOf 𝓤 H (𝓖 .A) f.signature (f.spec 𝓤 H (𝓖 .A) (𝓜 .mem) (𝓡 .run)))
-    (tables 𝓤 H 𝓜 𝓡 code.env .C) (tables 𝓤 H 𝓜 𝓡 code.env .Λ) #table·set-up code.function (code.unfolded 𝓤 H 𝓜 𝓡)
+    (tables 𝓤 H 𝓜 𝓡 code.env .C) (tables 𝓤 H 𝓜 𝓡 code.env .Λ) #setup·set-up code.function (code.unfolded 𝓤 H 𝓜 𝓡)
     (meets 𝓤 H (𝓖 .A) (givenOf 𝓤 H 𝓜 𝓖) (𝓜 .mem) (𝓡 .run) (tablesOf 𝓤 H 𝓜 (tables 𝓤 H 𝓜 𝓡 code.env))
-    (cited 𝓤 H (Reads 𝓤 H (𝓖 .A) (𝓜 .mem) (𝓡 .run)) 𝓜 𝓡 code.env #table·read-rows read-rows-def.routine code.calls-table·read-rows (read-rows-thm.met 𝓤 H 𝓜 𝓖 𝓡))
-    (cited 𝓤 H (With 𝓤 H (𝓖 .A) (𝓜 .mem) (𝓡 .run)) 𝓜 𝓡 code.env #table·set-up-with set-up-with-def.routine code.calls-table·set-up-with (set-up-with-thm.met 𝓤 H 𝓜 𝓖 𝓡)))
+    (cited 𝓤 H (Reads 𝓤 H (𝓖 .A) (𝓜 .mem) (𝓡 .run)) 𝓜 𝓡 code.env #setup·read-rows read-rows-def.routine code.calls-setup·read-rows (read-rows-thm.met 𝓤 H 𝓜 𝓖 𝓡))
+    (cited 𝓤 H (With 𝓤 H (𝓖 .A) (𝓜 .mem) (𝓡 .run)) 𝓜 𝓡 code.env #setup·set-up-with set-up-with-def.routine code.calls-setup·set-up-with (set-up-with-thm.met 𝓤 H 𝓜 𝓖 𝓡)))

@@ -1,4 +1,4 @@
--- `table::check` meets its contract: each answer by the tests that led there. Assumes nothing.
+-- `setup::check` meets its contract: each answer by the tests that led there. Assumes nothing.
 use mathlib.Core.Path.{_≡_, sym, _∙_}
 use mathlib.Core.Bool.{false}
 use native.Mathlib.Omega.{arith}
@@ -6,13 +6,13 @@ use lib.ListN.{length}
 use borrow.Author.Needs.{needs}
 use Rattle.lists.specs.Lists.{count}
 use Rattle.lists.proofs.Arrays.{len}
 use Rattle.table.specs.declared.Checked.{Checked}
 use Rattle.table.specs.declared.Rows.{Rows}
 use Rattle.table.specs.Table.{unpack, heldRows, judgeTable, judgeRows}
 use Rattle.table.proofs.Judged.{judge-none, judge-many, judge-shape, judge-repeat, judge-multi, judge-accepted}
 use Rattle.table.proofs.Cells.{narrow}
-use Rattle.table.proofs.check.Statement.{statement}
-use Rattle.table.proofs.check.Tie as tie
+use Rattle.setup.proofs.check.Statement.{statement}
+use Rattle.setup.proofs.check.Tie as tie
 
 -- where every row found a place, the table is judged
 judged : (t : Rows) (r : Checked) → t .more ≡ false → judgeTable (heldRows t) ≡ r → r ≡ judgeRows t
@@ -36,9 +36,6 @@ returns-3 : tie.Need-returns-3
 returns-3 c =
     let t = c .before .before .before .before .args .rows in
     judged t _ (c .before .before .if1 .left) (judge-many (heldRows t) (omega (arith, held t)))
-
-has-misshapen-requires : tie.Need-has-misshapen-requires
-has-misshapen-requires c κs = search needs
 
 returns-4 : tie.Need-returns-4
 returns-4 c =
@@ -85,14 +82,4 @@ returns-7 c =
 pub check-spec : {M : Type 1} → statement M
 check-spec =
     tie.close
-    (tie.spec
-    returns
-    returns-2
-    returns-3
-    has-misshapen-requires
-    returns-4
-    has-repeats-requires
-    returns-5
-    multi-count-requires
-    returns-6
-    returns-7)
+    (tie.spec returns returns-2 returns-3 (λ c κs. search needs) returns-4 has-repeats-requires returns-5 multi-count-requires returns-6 returns-7)

@@ -1,10 +1,10 @@
--- `table::is_shaped` meets its contract: each answer by the tests that led there. Assumes nothing.
+-- `setup::is_shaped` meets its contract: each answer by the tests that led there. Assumes nothing.
 use borrow.Author.Tests.{le-leb, lt-leb, eq-eqb, ne-eqb}
 use Rattle.tapa.specs.Address.{categoryOf, subAddressOf}
 use Rattle.table.specs.Table.{shaped}
 use borrow.Author.Needs.{needs}
-use Rattle.table.proofs.is_shaped.Statement.{statement}
-use Rattle.table.proofs.is_shaped.Tie as tie
+use Rattle.setup.proofs.is_shaped.Statement.{statement}
+use Rattle.setup.proofs.is_shaped.Tie as tie
 
 returns : tie.Need-returns
 unfolding shaped categoryOf
@@ -13,9 +13,6 @@ returns c = simp (lt-leb _ _ (c .if1 .taken))
 returns-2 : tie.Need-returns-2
 unfolding shaped categoryOf subAddressOf
 returns-2 c = simp (le-leb _ _ (c .before .if1 .left), lt-leb _ _ (c .if2 .taken))
-
-cast-result : tie.Need-cast-result
-cast-result c = search needs
 
 returns-3 : tie.Need-returns-3
 unfolding shaped categoryOf subAddressOf
@@ -28,4 +25,4 @@ returns-4 c = simp (le-leb _ _ (c .before .before .if1 .left), le-leb _ _ (c .be
 pub is-shaped-spec : {M : Type 1} → statement M
 is-shaped-spec =
     tie.close
-    (tie.spec returns returns-2 cast-result returns-3 returns-4)
+    (tie.spec returns returns-2 (λ c. search needs) returns-3 returns-4)

@@ -1,14 +1,14 @@
--- `table::multi_count` meets its contract: the number so far is that of the rows passed. Assumes nothing.
+-- `setup::multi_count` meets its contract: the number so far is that of the rows passed. Assumes nothing.
 use Prim.Native.Nat.{ℕ, _≤_, _-_}
 use mathlib.Core.Path.{_≡_, sym, ap, _∙_}
 use mathlib.Core.Logic.{⊎-elim}
 use native.Mathlib.Omega.{arith}
 use Rattle.lists.specs.Lists.{count as countOf}
 use Rattle.lists.proofs.Arrays.{count-hit, count-miss}
 use Rattle.table.specs.Table.{unpack, isMulti, rowsOf}
 use borrow.Author.Needs.{needs}
-use Rattle.table.proofs.multi_count.Statement.{statement}
-use Rattle.table.proofs.multi_count.Tie as tie
+use Rattle.setup.proofs.multi_count.Statement.{statement}
+use Rattle.setup.proofs.multi_count.Tie as tie
 
 abbrev Inv-loop : tie.InvT-loop
 Inv-loop cells count multis₀ i₀ multis i = (i ≤ count) × (multis ≤ i) × (multis ≡ countOf isMulti (rowsOf cells i))
@@ -16,29 +16,8 @@ Inv-loop cells count multis₀ i₀ multis i = (i ≤ count) × (multis ≤ i) �
 abbrev μ-loop : tie.MeasureT-loop
 μ-loop cells count multis₀ i₀ multis i = count - i
 
-loop-holds : tie.Need-loop-holds Inv-loop μ-loop
-loop-holds c = search needs
-
-mul-is-multi : tie.Need-mul-is-multi Inv-loop μ-loop
-mul-is-multi c = search needs
-
-element-copy-out-is-multi : tie.Need-element-copy-out-is-multi Inv-loop μ-loop
-element-copy-out-is-multi c = search needs
-
 cast-is-multi : tie.Need-cast-is-multi Inv-loop μ-loop
 cast-is-multi c = record { fits = omega (arith, c .before .before .before .pre .narrow (c .before .before .loop .i) (omega arith)) }
-
-is-multi-requires : tie.Need-is-multi-requires Inv-loop μ-loop
-is-multi-requires c κs = search needs
-
-add-multis : tie.Need-add-multis Inv-loop μ-loop
-add-multis c = search needs
-
-add-i : tie.Need-add-i Inv-loop μ-loop
-add-i c = search needs
-
-loop-less : tie.Need-loop-less Inv-loop μ-loop
-loop-less c = search needs
 
 loop-again : tie.Need-loop-again Inv-loop μ-loop
 loop-again c =
@@ -59,16 +38,5 @@ returns c =
 pub multi-count-spec : {M : Type 1} → statement M
 multi-count-spec =
     tie.close
-    (tie.spec
-    Inv-loop
-    μ-loop
-    loop-holds
-    mul-is-multi
-    element-copy-out-is-multi
-    cast-is-multi
-    is-multi-requires
-    add-multis
-    add-i
-    loop-less
-    loop-again
-    returns)
+    (tie.spec Inv-loop μ-loop (λ c. search needs) (λ c. search needs) (λ c. search needs) cast-is-multi (λ c κs. search needs) (λ c. search needs)
+    (λ c. search needs) (λ c. search needs) loop-again returns)
