@@ -3,7 +3,7 @@
 // Usage: ./kiosk session [FILE..]
 //
 // Without a file it reads standard input. A session file has at most 65,536 bytes. docs/book/ explains
-// every line, and `./kiosk hex` makes such a file from text.
+// every line, and examples/README.md says how to write such a file.
 fn main() {
     printer::show_inputs(b"session");
 }
