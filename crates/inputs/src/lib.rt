@@ -6,7 +6,7 @@
 // the program.
 //
 // A Rattle program has no exit status. Where its first argument is `--status`, whoever started it
-// has opened descriptor 3 for it to tell of failures: one byte each. Without that argument it
+// has opened descriptor 3 for it to tell of failures, a digit each. Without that argument it
 // writes nothing there.
 //
 // No contract can say what is read or written, so those here speak of lengths only.
@@ -40,10 +40,10 @@ pub fn first_name() -> usize
     if is_asked() { 2 } else { 1 }
 }
 
-// Tells of a failure.
-pub fn tell() {
+// Tells of a failure: `1`, something could not be read or written; `2`, wrong usage.
+pub fn tell(status: &[u8]) {
     if is_asked() {
-        io::write_all(STATUS_FILENO, b"1");
+        io::write_all(STATUS_FILENO, status);
     }
 }
 
@@ -61,7 +61,7 @@ fn fail(program: &[u8], what: &[u8]) {
     io::write_all(STDERR_FILENO, program);
     io::write_all(STDERR_FILENO, b": ");
     os::fail(what);
-    tell();
+    tell(b"1");
 }
 
 // Reads once. No bytes are the end, or a failure.
@@ -179,7 +179,7 @@ pub fn write(program: &[u8], bytes: &[u8]) -> bool {
         return true;
     }
     if os::errno() == libc::EPIPE {
-        tell();
+        tell(b"1");
         return false;
     }
     fail(program, b"standard output");
