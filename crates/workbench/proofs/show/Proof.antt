@@ -51,10 +51,11 @@ returns-2 : tie.Need-returns-2 Inv-loop μ-loop
 returns-2 c = search needs
 
 loop-less : tie.Need-loop-less Inv-loop μ-loop
-loop-less c = ?
+loop-less c =
+    omega (arith, c .before .before .before .before .before .before .before .before .turn .ensures .onwards (not-false _ (c .before .if2 .left)), c .before .before .before .before .before .before .before .before .turn .ensures .inside (not-false _ (c .before .if2 .left)))
 
 loop-again : tie.Need-loop-again Inv-loop μ-loop
-loop-again c = ?
+loop-again c = (search needs, search needs, c .before .before .before .before .before .before .before .before .turn .ensures .sound (not-false _ (c .before .if2 .left)))
 
 pub show-spec : {M : Type 1} → statement M
 show-spec =
