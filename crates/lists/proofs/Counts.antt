@@ -55,10 +55,6 @@ module _ {A : Type 0} where
   keep-all q [] e = refl
   keep-all q (x ∷ l) e = let z = count-zero q x l e in rw (z .0, keep-all q l (z .1))
 
-  pub keep-none : (q : A → Bool) (l : List A) → count q l ≡ 0 → keep q l ≡ []
-  keep-none q [] e = refl
-  keep-none q (x ∷ l) e = let z = count-zero q x l e in rw (z .0, keep-none q l (z .1))
-
   pub length-keep : (q : A → Bool) (l : List A) → length (keep q l) ≡ count q l
   length-keep q [] = refl
   length-keep q (x ∷ l) = split (q x) (λ p. rw p (omega (arith, length-keep q l))) (λ p. rw p (omega (arith, length-keep q l)))

@@ -16,12 +16,6 @@ module _ {A : Type 0} where
     abbrev rest : A → Bool
     rest x = not (r x)
 
-    pub count-parts : (q : A → Bool) (l : List A) → count q l ≡ count q (keep r l) + count q (keep rest l)
-    count-parts q [] = refl
-    count-parts q (x ∷ l) =
-        let ih = count-parts q l in
-        split (r x) (λ p. rw p (omega arith)) (λ p. rw p (omega arith))
-
     pub length-parts : (l : List A) → length l ≡ length (keep r l) + length (keep rest l)
     length-parts [] = refl
     length-parts (x ∷ l) =

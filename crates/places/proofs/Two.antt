@@ -7,16 +7,13 @@ use mathlib.Core.Option.{some}
 use native.Mathlib.Omega.{arith}
 use lib.ListN.{length}
 use Rattle.lists.specs.Lists.{one, count, keep, first, without, changed}
-use Rattle.lists.proofs.Kept.{count-parts, length-parts, first-within, without-within, without-apart, changed-out, changed-in, keep-wider, keep-agrees}
+use Rattle.lists.proofs.Kept.{length-parts, first-within, without-within, without-apart, changed-out, changed-in, keep-wider, keep-agrees}
 use Rattle.place.specs.declared.Place.{Place}
 use Rattle.places.specs.Places.{isOpen, isOwed, waits, owings, owing, openOn, asksExactly, owesExactly, asks, notOwedBy}
 
 -- 'waits plus owings': the list has no other places
 pub two : (ps : List Place) → length ps ≡ length (waits ps) + length (owings ps)
 two ps = omega (arith, length-parts isOwed ps)
-
-pub two-counts : (q : Place → Bool) (ps : List Place) → count q ps ≡ count q (waits ps) + count q (owings ps)
-two-counts q ps = omega (arith, count-parts isOwed q ps)
 
 -- ---- tests that say open or owed
 
@@ -63,9 +60,6 @@ module _ (q : Place → Bool) (opened : (x : Place) → q x ≡ true → isOpen 
 -- ---- the same of owings
 
 module _ (q : Place → Bool) (owed : (x : Place) → q x ≡ true → isOwed x ≡ true) (ps : List Place) where
-  pub first-owing : first q ps ≡ first q (owings ps)
-  first-owing = first-within q isOwed owed ps
-
   pub owings-ended : owings (without q ps) ≡ without q (owings ps)
   owings-ended = without-within q isOwed owed ps
 
