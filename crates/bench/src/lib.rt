@@ -607,7 +607,7 @@ impl Bench {
     {
         if LONGEST < input.len() {
             return Turn {
-                length: lines::long_line(line),
+                length: lines::long_line(line, 0),
                 more: false,
                 next: self,
             };

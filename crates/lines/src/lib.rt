@@ -8,7 +8,7 @@ use rules::Outcome;
 use tapa::Refusal;
 ghost use mathlib.Core.Path.{_≡_};
 ghost use mathlib.Core.List.{_++_};
-ghost use Rattle.text.specs.Text.{pen, puts, ascii, decimalOf, hexesOf, wordHexOf};
+ghost use Rattle.text.specs.Text.{pen, puts, decimalOf, hexesOf, wordHexOf};
 ghost use Rattle.rules.specs.Said.{saidOutcome};
 ghost use Rattle.lines.specs.Lines.{textOf, stepLine, totalsLine, brokenLine, tableLine, longLine};
 

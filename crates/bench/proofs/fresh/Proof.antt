@@ -10,18 +10,6 @@ use borrow.Author.Needs.{needs}
 use Rattle.bench.proofs.fresh.Statement.{statement}
 use Rattle.bench.proofs.fresh.Tie as tie
 
-fresh-requires : tie.Need-fresh-requires
-fresh-requires c κs = search needs
-
-fresh-requires-2 : tie.Need-fresh-requires-2
-fresh-requires-2 c κs = search needs
-
-no-rows-requires : tie.Need-no-rows-requires
-no-rows-requires c κs = search needs
-
-start-with-requires : tie.Need-start-with-requires
-start-with-requires c κs = search needs
-
 returns : tie.Need-returns
 returns c =
     let held : Held (c .before .before .no-rows .result) = subst (λ (t : Rows). Held t) (sym (c .before .before .no-rows .ensures)) none-held in (
@@ -38,5 +26,4 @@ returns c =
     )
 
 pub fresh-spec : {M : Type 1} → statement M
-fresh-spec =
-    tie.close (tie.spec fresh-requires fresh-requires-2 no-rows-requires start-with-requires returns)
+fresh-spec = tie.close (tie.spec (λ c κs. search needs) (λ c κs. search needs) (λ c κs. search needs) (λ c κs. search needs) returns)

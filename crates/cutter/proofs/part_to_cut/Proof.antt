@@ -5,9 +5,6 @@ use borrow.Author.Needs.{needs}
 use Rattle.cutter.proofs.part_to_cut.Statement.{statement}
 use Rattle.cutter.proofs.part_to_cut.Tie as tie
 
-enum-told : tie.Need-enum-told
-enum-told c = search needs
-
 returns : tie.Need-returns
 returns c =
     hands-part (c .before .before .before .before .before .args .message) _ _
@@ -26,7 +23,7 @@ part-to-cut-spec =
     tie.close
     (tie.spec
     (λ c κs. search needs)
-    enum-told
+    (λ c. search needs)
     (λ c κs. search needs)
     (λ c. search needs)
     (λ c. search needs)

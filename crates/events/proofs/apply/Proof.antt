@@ -5,9 +5,6 @@ use borrow.Author.Needs.{needs}
 use Rattle.events.proofs.apply.Statement.{statement}
 use Rattle.events.proofs.apply.Tie as tie
 
-enum-told : tie.Need-enum-told
-enum-told c = search needs
-
 returns : tie.Need-returns
 unfolding apply
 returns c = rw (c .before .before .outcome .given .1) (c .with .ensures)
@@ -34,7 +31,7 @@ apply-spec =
     (tie.spec
     (λ c. search needs)
     (λ c κs. search needs)
-    enum-told
+    (λ c. search needs)
     (λ c. search needs)
     (λ c κs. search needs)
     (λ c. search needs)

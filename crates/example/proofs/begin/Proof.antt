@@ -8,19 +8,10 @@ use borrow.Author.Needs.{needs}
 use Rattle.example.proofs.begin.Statement.{statement}
 use Rattle.example.proofs.begin.Tie as tie
 
-array-set-from-rows : tie.Need-array-set-from-rows
-array-set-from-rows c = search needs
-
-set-up-own-requires : tie.Need-set-up-own-requires
-set-up-own-requires c κs = search needs
-
-start-from-requires : tie.Need-start-from-requires
-start-from-requires c κs = search needs
-
 returns : tie.Need-returns
 returns c =
     subst (λ (s : Started). Lawful (s .router)) (sym (c .start-from .ensures ∙ ap startFrom (c .before .set-up-own .ensures)))
     (lent-law _)
 
 pub begin-spec : {M : Type 1} → statement M
-begin-spec = tie.close (tie.spec array-set-from-rows set-up-own-requires start-from-requires returns)
+begin-spec = tie.close (tie.spec (λ c. search needs) (λ c κs. search needs) (λ c κs. search needs) returns)

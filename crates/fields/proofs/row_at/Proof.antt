@@ -6,18 +6,6 @@ use borrow.Author.Needs.{needs}
 use Rattle.fields.proofs.row_at.Statement.{statement}
 use Rattle.fields.proofs.row_at.Tie as tie
 
-read-at-requires : tie.Need-read-at-requires
-read-at-requires c κs = search needs
-
-enum-told : tie.Need-enum-told
-enum-told c = search needs
-
-enum-known-tag : tie.Need-enum-known-tag
-enum-known-tag c = search needs
-
-enum-known-tag-2 : tie.Need-enum-known-tag-2
-enum-known-tag-2 c = search needs
-
 row-in-requires : tie.Need-row-in-requires
 row-in-requires c κs = (inside (c .before .before .before .before .before .before .args .s .now) (c .before .before .before .before .before .before .args .at) _ _ _ (sym (c .before .before .before .before .read-at .ensures) ∙ c .before .before .tag2 .given .1)) .1
 
@@ -40,10 +28,10 @@ pub row-at-spec : {M : Type 1} → statement M
 row-at-spec =
     tie.close
     (tie.spec
-    read-at-requires
-    enum-told
-    enum-known-tag
-    enum-known-tag-2
+    (λ c κs. search needs)
+    (λ c. search needs)
+    (λ c. search needs)
+    (λ c. search needs)
     row-in-requires
     returns
     returns-2

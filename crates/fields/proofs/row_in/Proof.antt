@@ -7,20 +7,8 @@ use Rattle.fields.proofs.row_in.Tie as tie
 returns : tie.Need-returns
 returns c = let a = c .before .before .args in torn-long (a .s .now) (a .start) (a .long) (c .before .before .pre) (c .if1 .taken)
 
-add-status : tie.Need-add-status
-add-status c = search needs
-
-shared-slice-read-status : tie.Need-shared-slice-read-status
-shared-slice-read-status c = search needs
-
 returns-2 : tie.Need-returns-2
 returns-2 c = let a = c .before .before .before .before .args in torn-status (a .s .now) (a .start) (a .long) (c .before .before .before .before .pre) (c .before .before .if1 .left) (c .if2 .taken)
-
-word-at-requires : tie.Need-word-at-requires
-word-at-requires c κs = search needs
-
-add-t6 : tie.Need-add-t6
-add-t6 c = search needs
 
 returns-3 : tie.Need-returns-3
 returns-3 c = let a = c .before .before .before .before .before .args in row-whole (a .s .now) (a .start) (a .long) (c .before .before .before .before .before .pre) (c .word-at .result) (c .before .before .before .if1 .left) (c .before .if2 .left) (c .word-at .ensures)
@@ -30,9 +18,9 @@ row-in-spec =
     tie.close
     (tie.spec
     returns
-    add-status
-    shared-slice-read-status
+    (λ c. search needs)
+    (λ c. search needs)
     returns-2
-    word-at-requires
-    add-t6
+    (λ c κs. search needs)
+    (λ c. search needs)
     returns-3)

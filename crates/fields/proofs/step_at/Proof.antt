@@ -5,18 +5,6 @@ use borrow.Author.Needs.{needs}
 use Rattle.fields.proofs.step_at.Statement.{statement}
 use Rattle.fields.proofs.step_at.Tie as tie
 
-read-at-requires : tie.Need-read-at-requires
-read-at-requires c κs = search needs
-
-enum-told : tie.Need-enum-told
-enum-told c = search needs
-
-enum-told-2 : tie.Need-enum-told-2
-enum-told-2 c = search needs
-
-enum-known-tag : tie.Need-enum-known-tag
-enum-known-tag c = search needs
-
 step-in-requires : tie.Need-step-in-requires
 step-in-requires c κs = (inside (c .before .before .before .before .before .args .s .now) (c .before .before .before .before .before .args .at) _ _ _ (sym (c .before .before .before .read-at .ensures) ∙ c .before .tag .given .1)) .1
 
@@ -33,10 +21,10 @@ pub step-at-spec : {M : Type 1} → statement M
 step-at-spec =
     tie.close
     (tie.spec
-    read-at-requires
-    enum-told
-    enum-told-2
-    enum-known-tag
+    (λ c κs. search needs)
+    (λ c. search needs)
+    (λ c. search needs)
+    (λ c. search needs)
     step-in-requires
     returns
     returns-2

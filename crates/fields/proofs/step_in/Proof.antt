@@ -4,23 +4,14 @@ use borrow.Author.Needs.{needs}
 use Rattle.fields.proofs.step_in.Statement.{statement}
 use Rattle.fields.proofs.step_in.Tie as tie
 
-add-next : tie.Need-add-next
-add-next c = search needs
-
 returns : tie.Need-returns
 returns c = let a = c .before .before .args in is-message (a .s .now) (a .start) (a .long) (c .before .before .pre) (a .tag) (c .if1 .taken)
-
-shared-slice-read-t9 : tie.Need-shared-slice-read-t9
-shared-slice-read-t9 c = search needs
 
 returns-2 : tie.Need-returns-2
 returns-2 c = let a = c .before .before .before .before .before .args in is-give-up (a .s .now) (a .start) (a .long) (c .before .before .before .before .before .pre) (a .tag) (c .before .before .if2 .taken) (c .before .if3 .taken)
 
 returns-3 : tie.Need-returns-3
 returns-3 c = let a = c .before .before .before .before .args in no-give-up (a .s .now) (a .start) (a .long) (c .before .before .before .before .pre) (a .tag) (c .before .if2 .taken) (c .if3 .left)
-
-word-at-requires : tie.Need-word-at-requires
-word-at-requires c κs = search needs
 
 returns-4 : tie.Need-returns-4
 returns-4 c = let a = c .before .before .before .before .before .before .args in is-replaced (a .s .now) (a .start) (a .long) (c .before .before .before .before .before .before .pre) (a .tag) (c .word-at .result) (c .before .before .if4 .taken) (c .before .if5 .taken) (c .word-at .ensures)
@@ -35,12 +26,12 @@ pub step-in-spec : {M : Type 1} → statement M
 step-in-spec =
     tie.close
     (tie.spec
-    add-next
+    (λ c. search needs)
     returns
-    shared-slice-read-t9
+    (λ c. search needs)
     returns-2
     returns-3
-    word-at-requires
+    (λ c κs. search needs)
     returns-4
     returns-5
     returns-6)

@@ -8,9 +8,6 @@ use borrow.Author.Needs.{needs}
 use Rattle.hexes.proofs.advance.Statement.{statement}
 use Rattle.hexes.proofs.advance.Tie as tie
 
-is-over-requires : tie.Need-is-over-requires
-is-over-requires c κs = search needs
-
 returns : tie.Need-returns
 unfolding advanced
 returns c = rw (sym (c .before .is-over .ensures) ∙ c .if1 .taken)
@@ -31,4 +28,4 @@ unfolding advanced
 returns-4 c = rw (sym (c .before .before .before .before .before .before .is-over .ensures) ∙ c .before .before .before .before .before .if1 .left, ne-eqb _ 1 (c .before .before .before .if2 .left), ne-eqb _ 2 (c .before .if3 .left))
 
 pub advance-spec : {M : Type 1} → statement M
-advance-spec = tie.close (tie.spec is-over-requires returns returns-2 returns-3 add-t5 returns-4)
+advance-spec = tie.close (tie.spec (λ c κs. search needs) returns returns-2 returns-3 add-t5 returns-4)

@@ -5,12 +5,6 @@ use borrow.Author.Needs.{needs}
 use Rattle.hexes.proofs.class.Statement.{statement}
 use Rattle.hexes.proofs.class.Tie as tie
 
-sub-result : tie.Need-sub-result
-sub-result c = search needs
-
-sub-result-2 : tie.Need-sub-result-2
-sub-result-2 c = search needs
-
 returns : tie.Need-returns
 unfolding classOf
 returns c = rw (eq-eqb _ 32 (c .if1 .taken))
@@ -63,8 +57,8 @@ pub class-spec : {M : Type 1} → statement M
 class-spec =
     tie.close
     (tie.spec
-    sub-result
-    sub-result-2
+    (λ c. search needs)
+    (λ c. search needs)
     returns
     returns-2
     returns-3

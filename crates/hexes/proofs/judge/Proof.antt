@@ -13,12 +13,6 @@ returns-2 : tie.Need-returns-2
 unfolding stepOf
 returns-2 c = rw (eq-eqb _ 17 (c .before .if1 .taken), ne-eqb _ 17 (c .if2 .left))
 
-mul-t8 : tie.Need-mul-t8
-mul-t8 c = search needs
-
-add-t9 : tie.Need-add-t9
-add-t9 c = search needs
-
 returns-3 : tie.Need-returns-3
 unfolding stepOf
 returns-3 c = rw (ne-eqb _ 17 (c .before .before .if1 .left), lt-ltb _ 16 (c .before .if3 .taken), lt-ltb _ 16 (c .if4 .taken))
@@ -53,8 +47,8 @@ judge-spec =
     (tie.spec
     returns
     returns-2
-    mul-t8
-    add-t9
+    (λ c. search needs)
+    (λ c. search needs)
     returns-3
     returns-4
     returns-5

@@ -17,41 +17,8 @@ abbrev μ-loop : tie.MeasureT-loop
 loop-holds : tie.Need-loop-holds Inv-loop μ-loop
 loop-holds c = begins _ _
 
-shared-slice-read-class : tie.Need-shared-slice-read-class Inv-loop μ-loop
-shared-slice-read-class c = search needs
-
-class-requires : tie.Need-class-requires Inv-loop μ-loop
-class-requires c κs = search needs
-
-judge-requires : tie.Need-judge-requires Inv-loop μ-loop
-judge-requires c κs = search needs
-
-enum-known-next : tie.Need-enum-known-next Inv-loop μ-loop
-enum-known-next c = search needs
-
-enum-known-byte : tie.Need-enum-known-byte Inv-loop μ-loop
-enum-known-byte c = search needs
-
-put-requires : tie.Need-put-requires Inv-loop μ-loop
-put-requires c κs = search needs
-
-add-count : tie.Need-add-count Inv-loop μ-loop
-add-count c = search needs
-
-enum-known-ends : tie.Need-enum-known-ends Inv-loop μ-loop
-enum-known-ends c = search needs
-
-same-length : tie.Need-same-length Inv-loop μ-loop
-same-length c = search needs
-
 returns : tie.Need-returns Inv-loop μ-loop
 returns c = stops (c .before .before .before .before .before .before .before .before .before .before .args .text .now) (c .before .before .before .before .before .before .before .before .before .before .args .out .now) (c .before .before .before .before .before .before .before .loop .out) (c .before .before .before .before .before .before .before .loop .mode) (c .before .before .before .before .before .before .before .loop .mark) (c .before .before .before .before .before .before .before .loop .length) (c .before .before .before .before .before .before .before .loop .count) (c .before .before .before .before .before .before .before .loop .i) (c .before .before .before .before .before .before .before .loop .inv) (omega arith) (c .before .before .before .before .class .result) (c .before .before .before .before .class .ensures) (c .before .before .before .judge .result) (c .before .before .before .judge .ensures) _ (c .before .ends .given .1)
-
-add-i : tie.Need-add-i Inv-loop μ-loop
-add-i c = search needs
-
-loop-less : tie.Need-loop-less Inv-loop μ-loop
-loop-less c = search needs
 
 loop-again : tie.Need-loop-again Inv-loop μ-loop
 loop-again c =
@@ -59,12 +26,6 @@ loop-again c =
     (λ w. rw (w .3, w .4, w .5, w .6, w .7) (goes (c .before .before .before .before .before .before .before .before .args .text .now) (c .before .before .before .before .before .before .before .before .args .out .now) (c .before .before .before .before .before .loop .out) (c .before .before .before .before .before .loop .mode) (c .before .before .before .before .before .loop .mark) (c .before .before .before .before .before .loop .length) (c .before .before .before .before .before .loop .count) (c .before .before .before .before .before .loop .i) (c .before .before .before .before .before .loop .inv) (omega arith) (c .before .before .class .result) (c .before .before .class .ensures) (c .before .judge .result) (c .before .judge .ensures) _ _ (w .1 .given .1)))
     (λ w. rw (w .7, w .8, w .9, w .10, w .11) (gains (c .before .before .before .before .before .before .before .before .args .text .now) (c .before .before .before .before .before .before .before .before .args .out .now) (c .before .before .before .before .before .loop .out) (c .before .before .before .before .before .loop .mode) (c .before .before .before .before .before .loop .mark) (c .before .before .before .before .before .loop .length) (c .before .before .before .before .before .loop .count) (c .before .before .before .before .before .loop .i) (c .before .before .before .before .before .loop .inv) (omega arith) (c .before .before .class .result) (c .before .before .class .ensures) (c .before .judge .result) (c .before .judge .ensures) _ _ _ (w .1 .given .1) (search needs) (w .4 .ensures)))
     (c .match .came)
-
-ended-requires : tie.Need-ended-requires Inv-loop μ-loop
-ended-requires c κs = search needs
-
-same-length-2 : tie.Need-same-length-2 Inv-loop μ-loop
-same-length-2 c = search needs
 
 returns-2 : tie.Need-returns-2 Inv-loop μ-loop
 returns-2 c = over (c .before .before .before .before .before .args .text .now) (c .before .before .before .before .before .args .out .now) (c .before .before .loop .out) (c .before .before .loop .mode) (c .before .before .loop .mark) (c .before .before .loop .length) (c .before .before .loop .count) (c .before .before .loop .i) (c .before .before .loop .inv) _ (omega arith) (c .ended .ensures)
@@ -76,19 +37,19 @@ read-spec =
     Inv-loop
     μ-loop
     loop-holds
-    shared-slice-read-class
-    class-requires
-    judge-requires
-    enum-known-next
-    enum-known-byte
-    put-requires
-    add-count
-    enum-known-ends
-    same-length
+    (λ c. search needs)
+    (λ c κs. search needs)
+    (λ c κs. search needs)
+    (λ c. search needs)
+    (λ c. search needs)
+    (λ c κs. search needs)
+    (λ c. search needs)
+    (λ c. search needs)
+    (λ c. search needs)
     returns
-    add-i
-    loop-less
+    (λ c. search needs)
+    (λ c. search needs)
     loop-again
-    ended-requires
-    same-length-2
+    (λ c κs. search needs)
+    (λ c. search needs)
     returns-2)

@@ -6,21 +6,9 @@ use borrow.Author.Needs.{needs}
 use Rattle.hexes.proofs.write_end.Statement.{statement}
 use Rattle.hexes.proofs.write_end.Tie as tie
 
-is-over-requires : tie.Need-is-over-requires
-is-over-requires c κs = search needs
-
 returns : tie.Need-returns
 unfolding endOf
 returns c = rw (sym (c .before .is-over .ensures) ∙ c .if1 .taken) (sym (puts-none _))
-
-slice-aggregate-put-all : tie.Need-slice-aggregate-put-all
-slice-aggregate-put-all c = search needs
-
-put-all-requires : tie.Need-put-all-requires
-put-all-requires c κs = search needs
-
-same-length : tie.Need-same-length
-same-length c = search needs
 
 returns-2 : tie.Need-returns-2
 unfolding endOf
@@ -30,9 +18,9 @@ pub write-end-spec : {M : Type 1} → statement M
 write-end-spec =
     tie.close
     (tie.spec
-    is-over-requires
+    (λ c κs. search needs)
     returns
-    slice-aggregate-put-all
-    put-all-requires
-    same-length
+    (λ c. search needs)
+    (λ c κs. search needs)
+    (λ c. search needs)
     returns-2)

@@ -5,9 +5,6 @@ use borrow.Author.Needs.{needs}
 use Rattle.message.proofs.data_part.Statement.{statement}
 use Rattle.message.proofs.data_part.Tie as tie
 
-enum-told : tie.Need-enum-told
-enum-told c = search needs
-
 sub-result : tie.Need-sub-result
 sub-result c = long (c .before .before .before .before .args .message .now) (sym (c .before .before .read .ensures) ∙ c .enum-told .given .1)
 
@@ -31,7 +28,7 @@ data-part-spec =
     tie.close
     (tie.spec
     (λ c κs. search needs)
-    enum-told
+    (λ c. search needs)
     sub-result
     part-result-start
     (λ c. search needs)

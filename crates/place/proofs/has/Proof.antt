@@ -5,17 +5,11 @@ use borrow.Author.Needs.{needs}
 use Rattle.place.proofs.has.Statement.{statement}
 use Rattle.place.proofs.has.Tie as tie
 
-handler-requires : tie.Need-handler-requires
-handler-requires c κs = search needs
-
 returns : tie.Need-returns
 returns c = rw (eq-eqb _ _ (sym (c .before .handler .ensures) ∙ c .if1 .taken))
-
-handler-requires-2 : tie.Need-handler-requires-2
-handler-requires-2 c κs = search needs
 
 returns-2 : tie.Need-returns-2
 returns-2 c = rw (ne-eqb _ _ (λ e. c .before .if1 .left (c .before .before .handler .ensures ∙ e)), c .handler2 .ensures)
 
 pub has-spec : {M : Type 1} → statement M
-has-spec = tie.close (tie.spec handler-requires returns handler-requires-2 returns-2)
+has-spec = tie.close (tie.spec (λ c κs. search needs) returns (λ c κs. search needs) returns-2)

@@ -6,17 +6,8 @@ use borrow.Author.Needs.{needs}
 use Rattle.place.proofs.has_on.Statement.{statement}
 use Rattle.place.proofs.has_on.Tie as tie
 
-open-on-requires : tie.Need-open-on-requires
-open-on-requires c κs = search needs
-
 returns : tie.Need-returns
 returns c = rw (sym (c .before .open-on .ensures) ∙ not-true _ (c .if1 .taken))
-
-place-of-requires : tie.Need-place-of-requires
-place-of-requires c κs = search needs
-
-has-requires : tie.Need-has-requires
-has-requires c κs = search needs
 
 returns-2 : tie.Need-returns-2
 returns-2 c =
@@ -25,6 +16,4 @@ returns-2 c =
     (c .has .ensures ∙ ap (stands (s .before .before .args .handler)) (c .before .place-of .ensures))
 
 pub has-on-spec : {M : Type 1} → statement M
-has-on-spec =
-    tie.close
-    (tie.spec open-on-requires returns place-of-requires has-requires returns-2)
+has-on-spec = tie.close (tie.spec (λ c κs. search needs) returns (λ c κs. search needs) (λ c κs. search needs) returns-2)

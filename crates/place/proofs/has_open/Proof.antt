@@ -5,17 +5,11 @@ use borrow.Author.Needs.{needs}
 use Rattle.place.proofs.has_open.Statement.{statement}
 use Rattle.place.proofs.has_open.Tie as tie
 
-place-of-requires : tie.Need-place-of-requires
-place-of-requires c κs = search needs
-
 returns : tie.Need-returns
 returns c =
     let s = c .before in
     let a = s .before .args in
     told (standsIn (a .handler)) (s .place-of .ensures) (rw (c .if1 .taken))
-
-has-requires : tie.Need-has-requires
-has-requires c κs = search needs
 
 returns-2 : tie.Need-returns-2
 returns-2 c =
@@ -24,6 +18,4 @@ returns-2 c =
     told (standsIn (a .handler)) (s .place-of .ensures) (rw (c .before .if1 .left) (c .has .ensures))
 
 pub has-open-spec : {M : Type 1} → statement M
-has-open-spec =
-    tie.close
-    (tie.spec place-of-requires returns has-requires returns-2)
+has-open-spec = tie.close (tie.spec (λ c κs. search needs) returns (λ c κs. search needs) returns-2)

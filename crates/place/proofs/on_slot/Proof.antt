@@ -7,20 +7,11 @@ use borrow.Author.Needs.{needs}
 use Rattle.place.proofs.on_slot.Statement.{statement}
 use Rattle.place.proofs.on_slot.Tie as tie
 
-place-of-requires : tie.Need-place-of-requires
-place-of-requires c κs = search needs
-
-handler-requires : tie.Need-handler-requires
-handler-requires c κs = search needs
-
 returns : tie.Need-returns
 returns c =
     let s = c .before .before in
     let a = s .before .args in
     told (onSlot (a .handler) (a .thread)) (s .place-of .ensures) (rw (ne-eqb _ _ (λ e. c .if1 .taken (c .before .handler .ensures ∙ e))))
-
-is-multi-requires : tie.Need-is-multi-requires
-is-multi-requires c κs = search needs
 
 returns-2 : tie.Need-returns-2
 returns-2 c =
@@ -35,6 +26,4 @@ returns-3 c =
     told (onSlot (a .handler) (a .thread)) (s .place-of .ensures) (rw (eq-eqb _ _ (sym (c .before .before .before .handler .ensures) ∙ c .before .before .if1 .left), sym (c .before .is-multi .ensures) ∙ c .if2 .left))
 
 pub on-slot-spec : {M : Type 1} → statement M
-on-slot-spec =
-    tie.close
-    (tie.spec place-of-requires handler-requires returns is-multi-requires returns-2 returns-3)
+on-slot-spec = tie.close (tie.spec (λ c κs. search needs) (λ c κs. search needs) returns (λ c κs. search needs) returns-2 returns-3)

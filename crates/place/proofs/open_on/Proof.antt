@@ -5,9 +5,6 @@ use borrow.Author.Needs.{needs}
 use Rattle.place.proofs.open_on.Statement.{statement}
 use Rattle.place.proofs.open_on.Tie as tie
 
-place-of-requires : tie.Need-place-of-requires
-place-of-requires c κs = search needs
-
 returns : tie.Need-returns
 returns c =
     let s = c .before in
@@ -21,6 +18,4 @@ returns-2 c =
     told (openOn (a .thread)) (s .place-of .ensures) (rw (c .before .if1 .left))
 
 pub open-on-spec : {M : Type 1} → statement M
-open-on-spec =
-    tie.close
-    (tie.spec place-of-requires returns returns-2)
+open-on-spec = tie.close (tie.spec (λ c κs. search needs) returns returns-2)

@@ -8,12 +8,6 @@ use borrow.Author.Needs.{needs}
 use Rattle.place.proofs.owed_by.Statement.{statement}
 use Rattle.place.proofs.owed_by.Tie as tie
 
-place-of-requires : tie.Need-place-of-requires
-place-of-requires c κs = search needs
-
-handler-requires : tie.Need-handler-requires
-handler-requires c κs = search needs
-
 returns : tie.Need-returns
 returns c =
     let s = c .before .before in
@@ -27,6 +21,4 @@ returns-2 c =
     told (owedBy (a .handler)) (s .place-of .ensures) (rw (ne-eqb _ _ (λ e. c .if1 .left (c .before .handler .ensures ∙ e))) (sym (and-false (s .place-of .result .owed))))
 
 pub owed-by-spec : {M : Type 1} → statement M
-owed-by-spec =
-    tie.close
-    (tie.spec place-of-requires handler-requires returns returns-2)
+owed-by-spec = tie.close (tie.spec (λ c κs. search needs) (λ c κs. search needs) returns returns-2)

@@ -6,9 +6,6 @@ use borrow.Author.Needs.{needs}
 use Rattle.place.proofs.owes_exactly.Statement.{statement}
 use Rattle.place.proofs.owes_exactly.Tie as tie
 
-place-of-requires : tie.Need-place-of-requires
-place-of-requires c κs = search needs
-
 returns : tie.Need-returns
 returns c =
     let s = c .before .before in
@@ -28,6 +25,4 @@ returns-3 c =
     told (owesExactly (a .asked) (a .thread)) (s .place-of .ensures) (rw (not-false (s .place-of .result .owed) (c .before .before .before .if1 .left), eq-eqb _ _ (c .before .if2 .left)))
 
 pub owes-exactly-spec : {M : Type 1} → statement M
-owes-exactly-spec =
-    tie.close
-    (tie.spec place-of-requires returns returns-2 returns-3)
+owes-exactly-spec = tie.close (tie.spec (λ c κs. search needs) returns returns-2 returns-3)

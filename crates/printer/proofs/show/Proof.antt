@@ -16,41 +16,14 @@ Inv-loop program input page₀ session₀ page session = (65536 ≡ length page)
 abbrev μ-loop : tie.MeasureT-loop
 μ-loop program input page₀ session₀ page session = length (linesLeft input session)
 
-large-buffer-requires : tie.Need-large-buffer-requires Inv-loop μ-loop
-large-buffer-requires c κs = search needs
-
-begin-requires : tie.Need-begin-requires Inv-loop μ-loop
-begin-requires c κs = search needs
-
 loop-holds : tie.Need-loop-holds Inv-loop μ-loop
 loop-holds c = (search needs, record { law = c .begin .ensures .law; sound = c .begin .ensures .sound })
-
-slice-aggregate-fill-page : tie.Need-slice-aggregate-fill-page Inv-loop μ-loop
-slice-aggregate-fill-page c = search needs
-
-fill-page-requires : tie.Need-fill-page-requires Inv-loop μ-loop
-fill-page-requires c κs = search needs
-
-array-share-prefix-page : tie.Need-array-share-prefix-page Inv-loop μ-loop
-array-share-prefix-page c = search needs
 
 slice-aggregate-write : tie.Need-slice-aggregate-write Inv-loop μ-loop
 slice-aggregate-write c = sym (length-take-le _ _ (c .before .before .fill-page .ensures .inside))
 
-write-requires : tie.Need-write-requires Inv-loop μ-loop
-write-requires c κs = search needs
-
-returns : tie.Need-returns Inv-loop μ-loop
-returns c = search needs
-
-returns-2 : tie.Need-returns-2 Inv-loop μ-loop
-returns-2 c = search needs
-
 loop-less : tie.Need-loop-less Inv-loop μ-loop
 loop-less c = fewer (c .before .before .before .before .before .before .before .before .before .before .before .before .before .before .args .input .now) (c .before .before .before .before .before .before .before .before .before .loop .session) (c .before .before .before .before .before .before .before .before .before .loop .page) _ (c .before .before .before .before .before .before .before .fill-page .result) (c .before .before .before .before .before .before .before .fill-page .ensures) (omega (arith, c .before .before .before .before .before .before .before .before .before .loop .inv .0)) (not-false _ (c .before .if2 .left))
-
-loop-again : tie.Need-loop-again Inv-loop μ-loop
-loop-again c = search needs
 
 pub show-spec : {M : Type 1} → statement M
 show-spec =
@@ -58,15 +31,15 @@ show-spec =
     (tie.spec
     Inv-loop
     μ-loop
-    large-buffer-requires
-    begin-requires
+    (λ c κs. search needs)
+    (λ c κs. search needs)
     loop-holds
-    slice-aggregate-fill-page
-    fill-page-requires
-    array-share-prefix-page
+    (λ c. search needs)
+    (λ c κs. search needs)
+    (λ c. search needs)
     slice-aggregate-write
-    write-requires
-    returns
-    returns-2
+    (λ c κs. search needs)
+    (λ c. search needs)
+    (λ c. search needs)
     loop-less
-    loop-again)
+    (λ c. search needs))

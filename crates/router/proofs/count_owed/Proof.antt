@@ -17,21 +17,6 @@ Inv-loop list len owed₀ i₀ owed i = (i ≤ len) × (owed ≤ i) × (owed ≡
 abbrev μ-loop : tie.MeasureT-loop
 μ-loop list len owed₀ i₀ owed i = len - i
 
-loop-holds : tie.Need-loop-holds Inv-loop μ-loop
-loop-holds c = search needs
-
-place-at-requires : tie.Need-place-at-requires Inv-loop μ-loop
-place-at-requires c κs = search needs
-
-add-owed : tie.Need-add-owed Inv-loop μ-loop
-add-owed c = search needs
-
-add-i : tie.Need-add-i Inv-loop μ-loop
-add-i c = search needs
-
-loop-less : tie.Need-loop-less Inv-loop μ-loop
-loop-less c = search needs
-
 loop-again : tie.Need-loop-again Inv-loop μ-loop
 loop-again c =
     let s = c .before .before .before in
@@ -55,10 +40,10 @@ count-owed-spec =
     (tie.spec
     Inv-loop
     μ-loop
-    loop-holds
-    place-at-requires
-    add-owed
-    add-i
-    loop-less
+    (λ c. search needs)
+    (λ c κs. search needs)
+    (λ c. search needs)
+    (λ c. search needs)
+    (λ c. search needs)
     loop-again
     returns)

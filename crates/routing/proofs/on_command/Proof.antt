@@ -7,33 +7,6 @@ use borrow.Author.Needs.{needs}
 use Rattle.routing.proofs.on_command.Statement.{statement}
 use Rattle.routing.proofs.on_command.Tie as tie
 
-rule-for-requires : tie.Need-rule-for-requires
-rule-for-requires c κs = search needs
-
-enum-known-code : tie.Need-enum-known-code
-enum-known-code c = search needs
-
-respond-requires : tie.Need-respond-requires
-respond-requires c κs = search needs
-
-turned-back-requires : tie.Need-turned-back-requires
-turned-back-requires c κs = search needs
-
-enum-told : tie.Need-enum-told
-enum-told c = search needs
-
-wait-of-requires : tie.Need-wait-of-requires
-wait-of-requires c κs = search needs
-
-push-requires : tie.Need-push-requires
-push-requires c κs = search needs
-
-passed-requires : tie.Need-passed-requires
-passed-requires c κs = search needs
-
-same-length : tie.Need-same-length
-same-length c = search needs
-
 returns : tie.Need-returns
 returns c = let s = c .before .before .before .before .before .before .before .before .before .before .before in
     turns _ _ (s .pre .0) (s .args .head) _ _ _ _ _ (c .turned-back .ensures)
@@ -48,14 +21,14 @@ pub on-command-spec : {M : Type 1} → statement M
 on-command-spec =
     tie.close
     (tie.spec
-    rule-for-requires
-    enum-known-code
-    respond-requires
-    turned-back-requires
-    enum-told
-    wait-of-requires
-    push-requires
-    passed-requires
-    same-length
+    (λ c κs. search needs)
+    (λ c. search needs)
+    (λ c κs. search needs)
+    (λ c κs. search needs)
+    (λ c. search needs)
+    (λ c κs. search needs)
+    (λ c κs. search needs)
+    (λ c κs. search needs)
+    (λ c. search needs)
     returns
     returns-2)

@@ -11,16 +11,10 @@ use borrow.Author.Needs.{needs}
 use Rattle.routing.proofs.on_give_up.Statement.{statement}
 use Rattle.routing.proofs.on_give_up.Tie as tie
 
-refuse-requires : tie.Need-refuse-requires
-refuse-requires c κs = search needs
-
 returns : tie.Need-returns
 returns c = λ rows.
     let s = c .before .before .before in
     unwritten _ _ (s .pre) _ _ BufferTooSmall _ (c .refuse .ensures) (give-up-small _ _ _ (c .before .if1 .taken))
-
-refuse-requires-2 : tie.Need-refuse-requires-2
-refuse-requires-2 c κs = search needs
 
 returns-2 : tie.Need-returns-2
 returns-2 c = λ rows.
@@ -28,36 +22,12 @@ returns-2 c = λ rows.
     unwritten _ _ (s .pre) _ _ ThreadAbove7 _ (c .refuse2 .ensures)
     (give-up-thread _ _ _ (c .before .before .if1 .left) (c .before .if2 .taken))
 
-innermost-requires : tie.Need-innermost-requires
-innermost-requires c κs = search needs
-
-enum-told : tie.Need-enum-told
-enum-told c = search needs
-
-refuse-requires-3 : tie.Need-refuse-requires-3
-refuse-requires-3 c κs = search needs
-
-enum-known-at : tie.Need-enum-known-at
-enum-known-at c = search needs
-
-place-at-requires : tie.Need-place-at-requires
-place-at-requires c κs = search needs
-
-respond-requires : tie.Need-respond-requires
-respond-requires c κs = search needs
-
-owe-requires : tie.Need-owe-requires
-owe-requires c κs = search needs
-
 returns-3 : tie.Need-returns-3
 returns-3 c = λ rows.
     let s = c .before .before .before .before .before .before .before .before in
     unwritten _ _ (s .pre) _ _ NothingToGiveUp _ (c .refuse3 .ensures)
     (give-up-none _ _ (s .args .thread) (c .before .before .before .before .before .before .if1 .left) (c .before .before .before .before .before .if2 .left)
     (find-none (openOn (s .args .thread)) (placesOf (s .args .list .now) (s .args .len)) (sym (c .before .before .before .innermost .ensures) ∙ c .before .enum-told .given .1)))
-
-same-length : tie.Need-same-length
-same-length c = search needs
 
 returns-4 : tie.Need-returns-4
 returns-4 c = λ rows.
@@ -72,17 +42,17 @@ pub on-give-up-spec : {M : Type 1} → statement M
 on-give-up-spec =
     tie.close
     (tie.spec
-    refuse-requires
+    (λ c κs. search needs)
     returns
-    refuse-requires-2
+    (λ c κs. search needs)
     returns-2
-    innermost-requires
-    enum-told
-    refuse-requires-3
-    enum-known-at
-    place-at-requires
-    respond-requires
-    owe-requires
+    (λ c κs. search needs)
+    (λ c. search needs)
+    (λ c κs. search needs)
+    (λ c. search needs)
+    (λ c κs. search needs)
+    (λ c κs. search needs)
+    (λ c κs. search needs)
     returns-3
-    same-length
+    (λ c. search needs)
     returns-4)

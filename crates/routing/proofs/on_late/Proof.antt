@@ -7,21 +7,6 @@ use borrow.Author.Needs.{needs}
 use Rattle.routing.proofs.on_late.Statement.{statement}
 use Rattle.routing.proofs.on_late.Tie as tie
 
-find-owed-requires : tie.Need-find-owed-requires
-find-owed-requires c κs = search needs
-
-enum-known-i : tie.Need-enum-known-i
-enum-known-i c = search needs
-
-remove-requires : tie.Need-remove-requires
-remove-requires c κs = search needs
-
-enum-told : tie.Need-enum-told
-enum-told c = search needs
-
-refuse-requires : tie.Need-refuse-requires
-refuse-requires c κs = search needs
-
 returns : tie.Need-returns
 returns c = let a = c .before .before .before .before .before .before .before .args in
     swallows (a .list .now) (a .len) (a .head) _ _ _ (sym (c .before .before .before .before .before .find-owed .ensures) ∙ c .before .before .before .i .given .1) (c .remove .ensures)
@@ -35,10 +20,10 @@ pub on-late-spec : {M : Type 1} → statement M
 on-late-spec =
     tie.close
     (tie.spec
-    find-owed-requires
-    enum-known-i
-    remove-requires
-    enum-told
-    refuse-requires
+    (λ c κs. search needs)
+    (λ c. search needs)
+    (λ c κs. search needs)
+    (λ c. search needs)
+    (λ c κs. search needs)
     returns
     returns-2)

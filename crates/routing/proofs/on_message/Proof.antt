@@ -20,41 +20,14 @@ told b c e =
     let a = c .before .before .before .before .before .before .before .before .before .before .args in
     ap (λ (h : ℕ). listed h (rowsOf (a .cells .now) (a .count))) (sym (c .before .handler .ensures)) ∙ sym (c .is-listed .ensures) ∙ e
 
-refuse-requires : tie.Need-refuse-requires
-refuse-requires c κs = search needs
-
 returns : tie.Need-returns
 returns c = let s = c .before .before .before .before in
     unstepped _ _ (s .pre .0) _ _ (s .pre .1) _ _ BufferTooSmall _ (c .refuse .ensures) (message-small _ _ _ (c .before .if1 .taken))
-
-read-requires : tie.Need-read-requires
-read-requires c κs = search needs
-
-enum-known-refusal : tie.Need-enum-known-refusal
-enum-known-refusal c = search needs
-
-refuse-requires-2 : tie.Need-refuse-requires-2
-refuse-requires-2 c κs = search needs
-
-enum-known-head : tie.Need-enum-known-head
-enum-known-head c = search needs
-
-handler-requires : tie.Need-handler-requires
-handler-requires c κs = search needs
-
-is-listed-requires : tie.Need-is-listed-requires
-is-listed-requires c κs = search needs
-
-refuse-requires-3 : tie.Need-refuse-requires-3
-refuse-requires-3 c κs = search needs
 
 returns-2 : tie.Need-returns-2
 returns-2 c = let s = c .before .before .before .before .before .before .before .before .before .before .before .before in
     unstepped _ _ (s .pre .0) _ _ (s .pre .1) _ _ NotInTable _ (c .refuse3 .ensures)
     (message-unlisted _ _ _ (c .before .before .before .before .before .before .before .before .before .if1 .left) _ (c .before .before .before .before .before .before .before .before .read .ensures) _ (c .before .before .before .before .before .before .head .given .1) (told false (c .before .before) (not-true _ (c .before .if2 .taken))))
-
-refuse-requires-4 : tie.Need-refuse-requires-4
-refuse-requires-4 c κs = search needs
 
 returns-3 : tie.Need-returns-3
 returns-3 c = let s = c .before .before .before .before .before .before .before .before .before .before .before .before .before .before in
@@ -62,16 +35,10 @@ returns-3 c = let s = c .before .before .before .before .before .before .before 
     (message-thread _ _ _ (c .before .before .before .before .before .before .before .before .before .before .before .if1 .left) _ (c .before .before .before .before .before .before .before .before .before .before .read .ensures) _ (c .before .before .before .before .before .before .before .before .head .given .1) (told true (c .before .before .before .before) (not-false _ (c .before .before .before .if2 .left)))
     (c .before .if3 .taken))
 
-on-type-requires : tie.Need-on-type-requires
-on-type-requires c κs = search needs
-
 returns-4 : tie.Need-returns-4
 returns-4 c = let s = c .before .before .before .before .before .before .before .before in
     unstepped _ _ (s .pre .0) _ _ (s .pre .1) _ _ _ _ (c .refuse2 .ensures)
     (message-unread _ _ _ (c .before .before .before .before .before .if1 .left) _ (c .before .before .before .before .read .ensures) _ (c .before .before .refusal .given .1))
-
-same-length : tie.Need-same-length
-same-length c = search needs
 
 returns-5 : tie.Need-returns-5
 returns-5 c = step-as _ _ _ _ _ _ _ _ _
@@ -82,19 +49,19 @@ pub on-message-spec : {M : Type 1} → statement M
 on-message-spec =
     tie.close
     (tie.spec
-    refuse-requires
+    (λ c κs. search needs)
     returns
-    read-requires
-    enum-known-refusal
-    refuse-requires-2
-    enum-known-head
-    handler-requires
-    is-listed-requires
-    refuse-requires-3
+    (λ c κs. search needs)
+    (λ c. search needs)
+    (λ c κs. search needs)
+    (λ c. search needs)
+    (λ c κs. search needs)
+    (λ c κs. search needs)
+    (λ c κs. search needs)
     returns-2
-    refuse-requires-4
+    (λ c κs. search needs)
     returns-3
-    on-type-requires
+    (λ c κs. search needs)
     returns-4
-    same-length
+    (λ c. search needs)
     returns-5)

@@ -10,30 +10,9 @@ use borrow.Author.Needs.{needs}
 use Rattle.routing.proofs.on_response.Statement.{statement}
 use Rattle.routing.proofs.on_response.Tie as tie
 
-enum-known-coded : tie.Need-enum-known-coded
-enum-known-coded c = search needs
-
-enum-told : tie.Need-enum-told
-enum-told c = search needs
-
-refuse-requires : tie.Need-refuse-requires
-refuse-requires c κs = search needs
-
 returns : tie.Need-returns
 returns c = let s = c .before .before .before in
     unmoved _ _ (s .pre .0) _ _ (s .pre .1) _ NoResponseCode _ (c .refuse .ensures) (response-missing _ _ _ (c .before .enum-told .given .1))
-
-answer-at-requires : tie.Need-answer-at-requires
-answer-at-requires c κs = search needs
-
-enum-known-at : tie.Need-enum-known-at
-enum-known-at c = search needs
-
-enum-told-2 : tie.Need-enum-told-2
-enum-told-2 c = search needs
-
-on-late-requires : tie.Need-on-late-requires
-on-late-requires c κs = search needs
 
 returns-2 : tie.Need-returns-2
 returns-2 c = let a = c .before .before .before .before .before .before .before .before .before .args in
@@ -42,24 +21,12 @@ returns-2 c = let a = c .before .before .before .before .before .before .before 
     (answer-none (a .list .now) (a .len) (a .head .source) (a .head .thread) (sym (c .before .before .before .before .answer-at .ensures) ∙ c .before .before .enum-told2 .given .1)))
     (c .before .before .before .before .before .before .before .before .before .pre .1) (c .on-late .ensures)
 
-place-at-requires : tie.Need-place-at-requires
-place-at-requires c κs = search needs
-
-refuse-requires-2 : tie.Need-refuse-requires-2
-refuse-requires-2 c κs = search needs
-
 returns-3 : tie.Need-returns-3
 returns-3 c = let s = c .before .before .before .before .before .before .before .before .before .before .before .before .before .before in
     let a = s .args in
     let x = answer-some (a .list .now) (a .len) (a .head .source) (a .head .thread) _ (sym (c .before .before .before .before .before .before .before .before .before .answer-at .ensures) ∙ c .before .before .before .before .before .before .before .at .given .1) in
     unmoved _ _ (s .pre .0) _ _ (s .pre .1) _ WrongAsker _ (c .refuse2 .ensures)
     (response-wrong _ _ _ _ (c .before .before .before .before .before .before .before .before .before .before .before .before .coded .given .1) _ (x .it ∙ ap some (sym (c .before .before .before .before .place-at .ensures))) (c .before .if1 .taken))
-
-open-or-close-requires : tie.Need-open-or-close-requires
-open-or-close-requires c κs = search needs
-
-remove-requires : tie.Need-remove-requires
-remove-requires c κs = search needs
 
 returns-4 : tie.Need-returns-4
 returns-4 c = let a = c .before .before .before .before .before .before .before .before .before .before .before .before .before .before .before .before .before .args in
@@ -72,18 +39,18 @@ pub on-response-spec : {M : Type 1} → statement M
 on-response-spec =
     tie.close
     (tie.spec
-    enum-known-coded
-    enum-told
-    refuse-requires
+    (λ c. search needs)
+    (λ c. search needs)
+    (λ c κs. search needs)
     returns
-    answer-at-requires
-    enum-known-at
-    enum-told-2
-    on-late-requires
+    (λ c κs. search needs)
+    (λ c. search needs)
+    (λ c. search needs)
+    (λ c κs. search needs)
     returns-2
-    place-at-requires
-    refuse-requires-2
+    (λ c κs. search needs)
+    (λ c κs. search needs)
     returns-3
-    open-or-close-requires
-    remove-requires
+    (λ c κs. search needs)
+    (λ c κs. search needs)
     returns-4)

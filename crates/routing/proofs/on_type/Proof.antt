@@ -7,36 +7,15 @@ use borrow.Author.Needs.{needs}
 use Rattle.routing.proofs.on_type.Statement.{statement}
 use Rattle.routing.proofs.on_type.Tie as tie
 
-data-part-requires : tie.Need-data-part-requires
-data-part-requires c κs = search needs
-
-response-code-requires : tie.Need-response-code-requires
-response-code-requires c κs = search needs
-
-on-response-requires : tie.Need-on-response-requires
-on-response-requires c κs = search needs
-
 returns : tie.Need-returns
 returns c = let s = c .before .before .before .before .before .before .before .before .before in
     response-steps _ (s .args .head) _ _ _ _ _ _ _ _ (kind-response _ _ _ (c .before .before .before .before .before .if1 .taken))
     (c .before .before .before .response-code .ensures ∙ ap codeOf (c .before .before .before .before .data-part .ensures .bytes)) (c .on-response .ensures)
 
-is-add-event-requires : tie.Need-is-add-event-requires
-is-add-event-requires c κs = search needs
-
-event-requires : tie.Need-event-requires
-event-requires c κs = search needs
-
 returns-2 : tie.Need-returns-2
 returns-2 c = let s = c .before .before .before .before .before .before .before .before in
     event-steps _ _ _ _ (s .pre .0) (s .pre .1 .0) _ _ _
     (kind-event _ _ _ (c .before .before .before .before .if1 .left) (sym (c .before .before .before .is-add-event .ensures) ∙ c .before .before .if2 .taken)) (c .event .ensures)
-
-on-command-requires : tie.Need-on-command-requires
-on-command-requires c κs = search needs
-
-same-length : tie.Need-same-length
-same-length c = search needs
 
 returns-3 : tie.Need-returns-3
 returns-3 c = let s = c .before .before .before .before .before .before .before .before .before .before .before .before in
@@ -47,13 +26,13 @@ pub on-type-spec : {M : Type 1} → statement M
 on-type-spec =
     tie.close
     (tie.spec
-    data-part-requires
-    response-code-requires
-    on-response-requires
+    (λ c κs. search needs)
+    (λ c κs. search needs)
+    (λ c κs. search needs)
     returns
-    is-add-event-requires
-    event-requires
+    (λ c κs. search needs)
+    (λ c κs. search needs)
     returns-2
-    on-command-requires
-    same-length
+    (λ c κs. search needs)
+    (λ c. search needs)
     returns-3)

@@ -7,20 +7,8 @@ use Rattle.routing.proofs.open_or_close.Tie as tie
 returns : tie.Need-returns
 returns c = opens-not _ _ _ _ (c .before .pre) (c .if1 .taken)
 
-handler-requires : tie.Need-handler-requires
-handler-requires c κs = search needs
-
-set-open-requires : tie.Need-set-open-requires
-set-open-requires c κs = search needs
-
 returns-2 : tie.Need-returns-2
 returns-2 c = opens _ _ _ _ _ _ (c .before .before .before .before .before .if1 .left) (c .before .handler .ensures) (c .before .before .before .if2 .taken) (c .set-open .ensures)
-
-handler-requires-2 : tie.Need-handler-requires-2
-handler-requires-2 c κs = search needs
-
-set-open-requires-2 : tie.Need-set-open-requires-2
-set-open-requires-2 c κs = search needs
 
 returns-3 : tie.Need-returns-3
 returns-3 c = closes _ _ _ _ _ _ (c .before .before .before .before .before .before .before .if1 .left) (c .before .handler2 .ensures) (c .before .before .before .before .before .if2 .left) (c .before .before .before .if3 .taken) (c .set-open2 .ensures)
@@ -33,10 +21,10 @@ open-or-close-spec =
     tie.close
     (tie.spec
     returns
-    handler-requires
-    set-open-requires
+    (λ c κs. search needs)
+    (λ c κs. search needs)
     returns-2
-    handler-requires-2
-    set-open-requires-2
+    (λ c κs. search needs)
+    (λ c κs. search needs)
     returns-3
     returns-4)

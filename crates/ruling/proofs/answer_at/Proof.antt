@@ -5,20 +5,8 @@ use borrow.Author.Needs.{needs}
 use Rattle.ruling.proofs.answer_at.Statement.{statement}
 use Rattle.ruling.proofs.answer_at.Tie as tie
 
-innermost-requires : tie.Need-innermost-requires
-innermost-requires c κs = search needs
-
-enum-known-found : tie.Need-enum-known-found
-enum-known-found c = search needs
-
-enum-told : tie.Need-enum-told
-enum-told c = search needs
-
 returns : tie.Need-returns
 returns c = let a = c .before .before .before .args in asked-none (a .list .now) (a .source) _ _ (c .before .before .innermost .ensures) (c .enum-told .given .1)
-
-place-at-requires : tie.Need-place-at-requires
-place-at-requires c κs = search needs
 
 returns-2 : tie.Need-returns-2
 returns-2 c = let a = c .before .before .before .before .before .before .before .args in
@@ -34,10 +22,10 @@ pub answer-at-spec : {M : Type 1} → statement M
 answer-at-spec =
     tie.close
     (tie.spec
-    innermost-requires
-    enum-known-found
-    enum-told
+    (λ c κs. search needs)
+    (λ c. search needs)
+    (λ c. search needs)
     returns
-    place-at-requires
+    (λ c κs. search needs)
     returns-2
     returns-3)

@@ -4,9 +4,6 @@ use borrow.Author.Needs.{needs}
 use Rattle.ruling.proofs.event.Statement.{statement}
 use Rattle.ruling.proofs.event.Tie as tie
 
-is-open-requires : tie.Need-is-open-requires
-is-open-requires c κs = search needs
-
 returns : tie.Need-returns
 returns c = rw (sym (c .before .is-open .ensures) ∙ c .if1 .taken)
 
@@ -14,4 +11,4 @@ returns-2 : tie.Need-returns-2
 returns-2 c = rw (sym (c .before .is-open .ensures) ∙ c .if1 .left)
 
 pub event-spec : {M : Type 1} → statement M
-event-spec = tie.close (tie.spec is-open-requires returns returns-2)
+event-spec = tie.close (tie.spec (λ c κs. search needs) returns returns-2)

@@ -5,27 +5,6 @@ use borrow.Author.Needs.{needs}
 use Rattle.ruling.proofs.may_ask.Statement.{statement}
 use Rattle.ruling.proofs.may_ask.Tie as tie
 
-innermost-requires : tie.Need-innermost-requires
-innermost-requires c κs = search needs
-
-enum-known-i : tie.Need-enum-known-i
-enum-known-i c = search needs
-
-place-at-requires : tie.Need-place-at-requires
-place-at-requires c κs = search needs
-
-handler-requires : tie.Need-handler-requires
-handler-requires c κs = search needs
-
-handler-requires-2 : tie.Need-handler-requires-2
-handler-requires-2 c κs = search needs
-
-enum-told : tie.Need-enum-told
-enum-told c = search needs
-
-category-requires : tie.Need-category-requires
-category-requires c κs = search needs
-
 returns : tie.Need-returns
 returns c = let a = c .before .before .before .before .before .before .before .args in
     may-over (a .list .now) (a .len) (a .thread) (a .source) _ _ _ _
@@ -39,12 +18,12 @@ pub may-ask-spec : {M : Type 1} → statement M
 may-ask-spec =
     tie.close
     (tie.spec
-    innermost-requires
-    enum-known-i
-    place-at-requires
-    handler-requires
-    handler-requires-2
-    enum-told
-    category-requires
+    (λ c κs. search needs)
+    (λ c. search needs)
+    (λ c κs. search needs)
+    (λ c κs. search needs)
+    (λ c κs. search needs)
+    (λ c. search needs)
+    (λ c κs. search needs)
     returns
     returns-2)

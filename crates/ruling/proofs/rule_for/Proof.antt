@@ -77,47 +77,26 @@ past-d : (c : tie.After-is-busy)
     → mayAsk (view (at-e c) .places) (at-e c .args .head .thread) (at-e c .args .head .source) ≡ true
 past-d c = is-d true (c .before .before) (not-false _ (c .before .if4 .left))
 
-handler-requires : tie.Need-handler-requires
-handler-requires c κs = search needs
-
-is-listed-requires : tie.Need-is-listed-requires
-is-listed-requires c κs = search needs
-
 returns : tie.Need-returns
 returns c =
     let a = c .before in
     sym (turned-a _ (at-a a .args .head) (is-a false a (not-true _ (c .if1 .taken))))
-
-category-requires : tie.Need-category-requires
-category-requires c κs = search needs
-
-is-known-requires : tie.Need-is-known-requires
-is-known-requires c κs = search needs
 
 returns-2 : tie.Need-returns-2
 returns-2 c =
     let b = c .before in
     sym (turned-b _ (at-b b .args .head) (past-a b) (is-b false b (not-true _ (c .if2 .taken))))
 
-is-closed-requires : tie.Need-is-closed-requires
-is-closed-requires c κs = search needs
-
 returns-3 : tie.Need-returns-3
 returns-3 c =
     let k = c .before in
     sym (turned-c _ (at-c k .args .head) (past-a (k .before .before)) (past-b k) (is-c true k (c .if3 .taken)))
-
-may-ask-requires : tie.Need-may-ask-requires
-may-ask-requires c κs = search needs
 
 returns-4 : tie.Need-returns-4
 returns-4 c =
     let d = c .before in
     let k = d .before .before in
     sym (turned-d _ (at-d d .args .head) (past-a (k .before .before)) (past-b k) (past-c d) (is-d false d (not-true _ (c .if4 .taken))))
-
-is-busy-requires : tie.Need-is-busy-requires
-is-busy-requires c κs = search needs
 
 returns-5 : tie.Need-returns-5
 returns-5 c =
@@ -148,17 +127,17 @@ pub rule-for-spec : {M : Type 1} → statement M
 rule-for-spec =
     tie.close
     (tie.spec
-    handler-requires
-    is-listed-requires
+    (λ c κs. search needs)
+    (λ c κs. search needs)
     returns
-    category-requires
-    is-known-requires
+    (λ c κs. search needs)
+    (λ c κs. search needs)
     returns-2
-    is-closed-requires
+    (λ c κs. search needs)
     returns-3
-    may-ask-requires
+    (λ c κs. search needs)
     returns-4
-    is-busy-requires
+    (λ c κs. search needs)
     returns-5
     returns-6
     returns-7)

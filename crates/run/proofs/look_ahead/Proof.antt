@@ -5,35 +5,11 @@ use borrow.Author.Needs.{needs}
 use Rattle.run.proofs.look_ahead.Statement.{statement}
 use Rattle.run.proofs.look_ahead.Tie as tie
 
-enum-known-stage : tie.Need-enum-known-stage
-enum-known-stage c = search needs
-
 returns : tie.Need-returns
 returns c = settles (c .before .before .before .before .args .input .now) (c .before .before .before .before .args .cursor) _ (c .before .stage .given .1)
 
-enum-told : tie.Need-enum-told
-enum-told c = search needs
-
 returns-2 : tie.Need-returns-2
 returns-2 c = long-ahead (c .before .before .before .before .args .input .now) (c .before .before .before .before .args .cursor) (c .before .enum-told .given .1) (c .if1 .taken)
-
-step-at-requires : tie.Need-step-at-requires
-step-at-requires c κs = search needs
-
-enum-known-start : tie.Need-enum-known-start
-enum-known-start c = search needs
-
-enum-known-thread : tie.Need-enum-known-thread
-enum-known-thread c = search needs
-
-enum-known-address : tie.Need-enum-known-address
-enum-known-address c = search needs
-
-enum-told-2 : tie.Need-enum-told-2
-enum-told-2 c = search needs
-
-enum-told-3 : tie.Need-enum-told-3
-enum-told-3 c = search needs
 
 returns-3 : tie.Need-returns-3
 returns-3 c = step-ahead (c .before .before .before .before .before .before .before .before .args .input .now) (c .before .before .before .before .before .before .before .before .args .cursor) _ _ (c .before .before .before .before .before .enum-told .given .1) (c .before .before .before .before .if1 .left) (sym (c .before .before .before .step-at .ensures) ∙ c .before .start .given .1) refl
@@ -54,16 +30,16 @@ pub look-ahead-spec : {M : Type 1} → statement M
 look-ahead-spec =
     tie.close
     (tie.spec
-    enum-known-stage
+    (λ c. search needs)
     returns
-    enum-told
+    (λ c. search needs)
     returns-2
-    step-at-requires
-    enum-known-start
-    enum-known-thread
-    enum-known-address
-    enum-told-2
-    enum-told-3
+    (λ c κs. search needs)
+    (λ c. search needs)
+    (λ c. search needs)
+    (λ c. search needs)
+    (λ c. search needs)
+    (λ c. search needs)
     returns-3
     returns-4
     returns-5

@@ -8,43 +8,10 @@ use borrow.Author.Needs.{needs}
 use Rattle.run.proofs.next.Statement.{statement}
 use Rattle.run.proofs.next.Tie as tie
 
-look-ahead-requires : tie.Need-look-ahead-requires
-look-ahead-requires c κs = search needs
-
-enum-known-start : tie.Need-enum-known-start
-enum-known-start c = search needs
-
 on-message-requires : tie.Need-on-message-requires
 on-message-requires c κs =
     let b = inside-of (c .before .before .before .before .before .args .input .now) (c .before .before .before .before .before .args .router) (c .before .before .before .before .before .args .cursor) (c .before .before .before .before .before .pre .1) _ (sym (c .before .before .before .look-ahead .ensures) ∙ c .before .start .given .1) in
     (c .before .before .before .before .before .pre .0, (c .before .before .before .before .before .pre .1, (b .1, b .2)))
-
-enum-known-thread : tie.Need-enum-known-thread
-enum-known-thread c = search needs
-
-on-give-up-requires : tie.Need-on-give-up-requires
-on-give-up-requires c κs = search needs
-
-enum-known-address : tie.Need-enum-known-address
-enum-known-address c = search needs
-
-on-replaced-requires : tie.Need-on-replaced-requires
-on-replaced-requires c κs = search needs
-
-enum-told : tie.Need-enum-told
-enum-told c = search needs
-
-sum-up-requires : tie.Need-sum-up-requires
-sum-up-requires c κs = search needs
-
-ended-requires : tie.Need-ended-requires
-ended-requires c κs = search needs
-
-enum-known-item : tie.Need-enum-known-item
-enum-known-item c = search needs
-
-ended-requires-2 : tie.Need-ended-requires-2
-ended-requires-2 c κs = search needs
 
 returns : tie.Need-returns
 returns c =
@@ -74,18 +41,18 @@ pub next-spec : {M : Type 1} → statement M
 next-spec =
     tie.close
     (tie.spec
-    look-ahead-requires
-    enum-known-start
+    (λ c κs. search needs)
+    (λ c. search needs)
     on-message-requires
-    enum-known-thread
-    on-give-up-requires
-    enum-known-address
-    on-replaced-requires
-    enum-told
-    sum-up-requires
-    ended-requires
-    enum-known-item
-    ended-requires-2
+    (λ c. search needs)
+    (λ c κs. search needs)
+    (λ c. search needs)
+    (λ c κs. search needs)
+    (λ c. search needs)
+    (λ c κs. search needs)
+    (λ c κs. search needs)
+    (λ c. search needs)
+    (λ c κs. search needs)
     returns
     returns-2
     returns-3

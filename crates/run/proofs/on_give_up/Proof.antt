@@ -4,18 +4,8 @@ use borrow.Author.Needs.{needs}
 use Rattle.run.proofs.on_give_up.Statement.{statement}
 use Rattle.run.proofs.on_give_up.Tie as tie
 
-slice-aggregate-give-up : tie.Need-slice-aggregate-give-up
-slice-aggregate-give-up c = search needs
-
-give-up-requires : tie.Need-give-up-requires
-give-up-requires c κs = search needs
-
-after-step-requires : tie.Need-after-step-requires
-after-step-requires c κs = search needs
-
 returns : tie.Need-returns
 returns c = stepped-reply (c .before .before .before .before .before .args .router) (c .before .before .before .before .before .args .cursor) _ (c .before .before .before .before .before .args .end) (c .before .before .before .give-up .result) _ _ (c .after-step .ensures) (c .before .before .before .give-up .ensures)
 
 pub on-give-up-spec : {M : Type 1} → statement M
-on-give-up-spec =
-    tie.close (tie.spec slice-aggregate-give-up give-up-requires after-step-requires returns)
+on-give-up-spec = tie.close (tie.spec (λ c. search needs) (λ c κs. search needs) (λ c κs. search needs) returns)

@@ -4,14 +4,8 @@ use borrow.Author.Needs.{needs}
 use Rattle.run.proofs.on_replaced.Statement.{statement}
 use Rattle.run.proofs.on_replaced.Tie as tie
 
-replaced-requires : tie.Need-replaced-requires
-replaced-requires c κs = search needs
-
-after-step-requires : tie.Need-after-step-requires
-after-step-requires c κs = search needs
-
 returns : tie.Need-returns
 returns c = stepped-replaced (c .before .before .before .args .router) (c .before .before .before .args .cursor) (c .before .before .before .args .address) (c .before .before .before .args .end) (c .before .before .replaced .result) _ (c .after-step .ensures) (c .before .before .replaced .ensures)
 
 pub on-replaced-spec : {M : Type 1} → statement M
-on-replaced-spec = tie.close (tie.spec replaced-requires after-step-requires returns)
+on-replaced-spec = tie.close (tie.spec (λ c κs. search needs) (λ c κs. search needs) returns)

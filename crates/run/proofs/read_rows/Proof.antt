@@ -15,21 +15,9 @@ Inv-loop input rows₀ at₀ number₀ rows at number = (at ≤ length input) ×
 abbrev μ-loop : tie.MeasureT-loop
 μ-loop input rows₀ at₀ number₀ rows at number = length input - at
 
-no-rows-requires : tie.Need-no-rows-requires Inv-loop μ-loop
-no-rows-requires c κs = search needs
-
 loop-holds : tie.Need-loop-holds Inv-loop μ-loop
 unfolding headingOf
 loop-holds c = (omega arith, omega arith, ap (λ t. rowsFrom (c .before .before .args .input .now) t 1 0) (c .no-rows .ensures))
-
-row-at-requires : tie.Need-row-at-requires Inv-loop μ-loop
-row-at-requires c κs = search needs
-
-enum-known-address : tie.Need-enum-known-address Inv-loop μ-loop
-enum-known-address c = search needs
-
-with-row-requires : tie.Need-with-row-requires Inv-loop μ-loop
-with-row-requires c κs = search needs
 
 add-number : tie.Need-add-number Inv-loop μ-loop
 add-number c = omega (arith, c .before .before .before .before .before .loop .inv .0, c .before .before .before .before .before .loop .inv .1)
@@ -45,14 +33,8 @@ loop-again c =
     let b = inside-row (c .before .before .before .before .before .before .before .before .args .input .now) (c .before .before .before .before .before .loop .at) _ e in
     (b .1, omega (arith, b .0, c .before .before .before .before .before .loop .inv .1), rows-again (c .before .before .before .before .before .before .before .before .args .input .now) (c .before .before .before .before .before .loop .rows) (c .before .before .before .before .before .loop .number) (c .before .before .before .before .before .loop .at) _ (c .before .before .before .before .before .loop .inv .2) _ _ _ _ e (c .with-row .ensures))
 
-enum-told : tie.Need-enum-told Inv-loop μ-loop
-enum-told c = search needs
-
 returns : tie.Need-returns Inv-loop μ-loop
 returns c = rows-end (c .before .before .before .before .before .before .args .input .now) (c .before .before .before .loop .rows) (c .before .before .before .loop .number) (c .before .before .before .loop .at) _ (c .before .before .before .loop .inv .2) _ _ (sym (c .before .before .row-at .ensures) ∙ c .enum-told .given .1) refl
-
-enum-told-2 : tie.Need-enum-told-2 Inv-loop μ-loop
-enum-told-2 c = search needs
 
 returns-2 : tie.Need-returns-2 Inv-loop μ-loop
 returns-2 c = rows-end (c .before .before .before .before .before .before .args .input .now) (c .before .before .before .loop .rows) (c .before .before .before .loop .number) (c .before .before .before .loop .at) _ (c .before .before .before .loop .inv .2) _ _ (sym (c .before .before .row-at .ensures) ∙ c .enum-told2 .given .1) refl
@@ -63,15 +45,15 @@ read-rows-spec =
     (tie.spec
     Inv-loop
     μ-loop
-    no-rows-requires
+    (λ c κs. search needs)
     loop-holds
-    row-at-requires
-    enum-known-address
-    with-row-requires
+    (λ c κs. search needs)
+    (λ c. search needs)
+    (λ c κs. search needs)
     add-number
     loop-less
     loop-again
-    enum-told
+    (λ c. search needs)
     returns
-    enum-told-2
+    (λ c. search needs)
     returns-2)

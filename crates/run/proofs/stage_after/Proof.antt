@@ -7,12 +7,6 @@ use Rattle.run.proofs.stage_after.Tie as tie
 returns : tie.Need-returns
 returns c = stage-torn _ _ (c .before .args .answer) (c .if1 .taken)
 
-enum-known-answer : tie.Need-enum-known-answer
-enum-known-answer c = search needs
-
-enum-told : tie.Need-enum-told
-enum-told c = search needs
-
 returns-2 : tie.Need-returns-2
 returns-2 c = stage-checked _ _ _ _ (c .before .before .before .if1 .left) (c .before .answer .given .1)
 
@@ -20,4 +14,4 @@ returns-3 : tie.Need-returns-3
 returns-3 c = stage-checked _ _ _ _ (c .before .before .if1 .left) (c .enum-told .given .1)
 
 pub stage-after-spec : {M : Type 1} → statement M
-stage-after-spec = tie.close (tie.spec returns enum-known-answer enum-told returns-2 returns-3)
+stage-after-spec = tie.close (tie.spec returns (λ c. search needs) (λ c. search needs) returns-2 returns-3)

@@ -4,14 +4,8 @@ use borrow.Author.Needs.{needs}
 use Rattle.run.proofs.started.Statement.{statement}
 use Rattle.run.proofs.started.Tie as tie
 
-start-with-requires : tie.Need-start-with-requires
-start-with-requires c κs = search needs
-
-stage-after-requires : tie.Need-stage-after-requires
-stage-after-requires c κs = search needs
-
 returns : tie.Need-returns
 returns c = starts (c .before .before .before .before .args .heading) (c .before .before .start-with .result) _ (c .before .before .start-with .ensures) (c .stage-after .ensures)
 
 pub started-spec : {M : Type 1} → statement M
-started-spec = tie.close (tie.spec start-with-requires stage-after-requires returns)
+started-spec = tie.close (tie.spec (λ c κs. search needs) (λ c κs. search needs) returns)

@@ -5,14 +5,8 @@ use borrow.Author.Needs.{needs}
 use Rattle.run.proofs.sum_up.Statement.{statement}
 use Rattle.run.proofs.sum_up.Tie as tie
 
-waiting-requires : tie.Need-waiting-requires
-waiting-requires c κs = search needs
-
-owing-requires : tie.Need-owing-requires
-owing-requires c κs = search needs
-
 returns : tie.Need-returns
 returns c = sums (c .before .before .args .tally) (viewOf (c .before .before .args .router)) _ _ (c .before .waiting .ensures) (c .owing .ensures)
 
 pub sum-up-spec : {M : Type 1} → statement M
-sum-up-spec = tie.close (tie.spec waiting-requires owing-requires returns)
+sum-up-spec = tie.close (tie.spec (λ c κs. search needs) (λ c κs. search needs) returns)

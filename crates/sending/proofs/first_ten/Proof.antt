@@ -10,18 +10,8 @@ use Rattle.sending.proofs.first_ten.Tie as tie
 returns : tie.Need-returns
 returns c = record { bytes = sym (take-all 10 (c .before .args .reply .now) (omega arith)); place = from-start (c .before .args .reply) }
 
-sub-result : tie.Need-sub-result
-sub-result c = search needs
-
-part-result-start : tie.Need-part-result-start
-part-result-start c = search needs
-
-part-result-end : tie.Need-part-result-end
-part-result-end c = search needs
-
 returns-2 : tie.Need-returns-2
 returns-2 c = record { bytes = search needs; place = refl }
 
 pub first-ten-spec : {M : Type 1} → statement M
-first-ten-spec =
-    tie.close (tie.spec returns sub-result part-result-start part-result-end returns-2)
+first-ten-spec = tie.close (tie.spec returns (λ c. search needs) (λ c. search needs) (λ c. search needs) returns-2)

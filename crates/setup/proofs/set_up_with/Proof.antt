@@ -7,9 +7,6 @@ use Rattle.table.specs.Table.{judgeRows, keptBy, setUpWith}
 use Rattle.setup.proofs.set_up_with.Statement.{statement}
 use Rattle.setup.proofs.set_up_with.Tie as tie
 
-enum-told : tie.Need-enum-told
-enum-told c = search needs
-
 -- an answer with the rows that it leaves
 leaves : (t u : Rows) (r : Checked) → r ≡ judgeRows t → u ≡ keptBy r t → record { answer = r; rows = u } ≡ setUpWith t
 leaves t u r e k = rw (k, e)
@@ -28,4 +25,10 @@ returns-2 c =
 pub set-up-with-spec : {M : Type 1} → statement M
 set-up-with-spec =
     tie.close
-    (tie.spec (λ c κs. search needs) enum-told (λ c. search needs) (λ c κs. search needs) returns returns-2)
+    (tie.spec
+    (λ c κs. search needs)
+    (λ c. search needs)
+    (λ c. search needs)
+    (λ c κs. search needs)
+    returns
+    returns-2)

@@ -7,29 +7,11 @@ use borrow.Author.Needs.{needs}
 use Rattle.bench.proofs.Bench.line_of.Statement.{statement}
 use Rattle.bench.proofs.Bench.line_of.Tie as tie
 
-put-decimal-requires : tie.Need-put-decimal-requires
-put-decimal-requires c κs = search needs
-
 sub-rest-of : tie.Need-sub-rest-of
 sub-rest-of c = number-written _ _ _ _ (c .before .before .before .before .before .before .before .pre .1) (omega (arith, c .before .before .before .before .before .before .before .pre .0 .counted, c .before .before .before .before .before .before .before .pre .0 .near)) (c .before .before .put-decimal .ensures) .fits
 
 part-rest-of-start : tie.Need-part-rest-of-start
 part-rest-of-start c = number-written _ _ _ _ (c .before .before .before .before .before .before .before .pre .1) (omega (arith, c .before .before .before .before .before .before .before .pre .0 .counted, c .before .before .before .before .before .before .before .pre .0 .near)) (c .before .before .put-decimal .ensures) .fits
-
-part-rest-of-end : tie.Need-part-rest-of-end
-part-rest-of-end c = search needs
-
-rest-of-requires : tie.Need-rest-of-requires
-rest-of-requires c κs = search needs
-
-sum-within-requires : tie.Need-sum-within-requires
-sum-within-requires c κs = search needs
-
-same-length : tie.Need-same-length
-same-length c = search needs
-
-same-length-2 : tie.Need-same-length-2
-same-length-2 c = search needs
 
 returns : tie.Need-returns
 returns c =
@@ -41,12 +23,12 @@ pub line-of-spec : {M : Type 1} → statement M
 line-of-spec =
     tie.close
     (tie.spec
-    put-decimal-requires
+    (λ c κs. search needs)
     sub-rest-of
     part-rest-of-start
-    part-rest-of-end
-    rest-of-requires
-    sum-within-requires
-    same-length
-    same-length-2
+    (λ c. search needs)
+    (λ c κs. search needs)
+    (λ c κs. search needs)
+    (λ c. search needs)
+    (λ c. search needs)
     returns)

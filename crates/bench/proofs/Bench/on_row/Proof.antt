@@ -7,11 +7,8 @@ use borrow.Author.Needs.{needs}
 use Rattle.bench.proofs.Bench.on_row.Statement.{statement}
 use Rattle.bench.proofs.Bench.on_row.Tie as tie
 
-with-row-requires : tie.Need-with-row-requires
-with-row-requires c κs = search needs
-
 returns : tie.Need-returns
 returns c = record { queue = search needs; router = search needs; rows = subst (λ (t : Rows). Held t) (sym (c .with-row .ensures)) (with-held _ _ (c .before .pre .rows)) }
 
 pub on-row-spec : {M : Type 1} → statement M
-on-row-spec = tie.close (tie.spec with-row-requires returns)
+on-row-spec = tie.close (tie.spec (λ c κs. search needs) returns)

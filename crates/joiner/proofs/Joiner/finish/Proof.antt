@@ -4,9 +4,6 @@ use borrow.Author.Needs.{needs}
 use Rattle.joiner.proofs.Joiner.finish.Statement.{statement}
 use Rattle.joiner.proofs.Joiner.finish.Tie as tie
 
-enum-told : tie.Need-enum-told
-enum-told c = search needs
-
 complete-requires : tie.Need-complete-requires
 complete-requires c κs = let a = c .before .before .before .before .before .before .before .before .args in completes (a .self) (a .m) (a .buffer .now) (c .before .before .before .before .before .before .before .before .pre .0) (c .before .before .before .before .before .before .before .before .pre .1) _ (c .before .before .before .before .judge .ensures) _ (c .before .before .source .given .1)
 
@@ -28,7 +25,7 @@ finish-spec =
     (λ c. search needs)
     (λ c κs. search needs)
     (λ c. search needs)
-    enum-told
+    (λ c. search needs)
     (λ c. search needs)
     complete-requires
     (λ c. search needs)

@@ -9,9 +9,6 @@ use Rattle.joiner.proofs.Joiner.join.Tie as tie
 returns : tie.Need-returns
 returns c = joins-small (c .before .before .before .args .self) (c .before .before .before .args .piece .now) (c .before .before .before .args .buffer .now) (c .if1 .taken)
 
-enum-told : tie.Need-enum-told
-enum-told c = search needs
-
 add-piece-requires : tie.Need-add-piece-requires
 add-piece-requires c κs = let a = c .before .before .before .before .before .before .before .args in let t = taken-more (a .self .joined) (a .piece .now) (sym (c .before .before .before .check-piece .ensures) ∙ c .before .enum-told .given .1) in (t .two, omega (arith, t .fits, c .before .before .before .before .if1 .left))
 
@@ -38,7 +35,7 @@ join-spec =
     (λ c κs. search needs)
     (λ c. search needs)
     (λ c κs. search needs)
-    enum-told
+    (λ c. search needs)
     add-piece-requires
     (λ c κs. search needs)
     (λ c. search needs)

@@ -14,9 +14,6 @@ found : (c : tie.After-newer)
     → find (meets (likeOf (c .before .before .before .args .event))) (eventsOf (c .before .before .before .args .self)) ≡ At (c .newer .given .0 .0)
 found c = sym (c .before .before .find .ensures) ∙ c .newer .given .1
 
-enum-told : tie.Need-enum-told
-enum-told c = search needs
-
 without-requires : tie.Need-without-requires
 without-requires c κs = (search needs, stands _ _ 0 _ _ (found (c .before)) .inside)
 
@@ -27,4 +24,4 @@ returns-2 : tie.Need-returns-2
 returns-2 c = rw (stands _ _ 0 _ _ (found (c .before .before)) .rest) (c .without .ensures)
 
 pub taken-spec : {M : Type 1} → statement M
-taken-spec = tie.close (tie.spec (λ c κs. search needs) enum-told (λ c. search needs) without-requires returns returns-2)
+taken-spec = tie.close (tie.spec (λ c κs. search needs) (λ c. search needs) (λ c. search needs) without-requires returns returns-2)

@@ -5,13 +5,10 @@ use borrow.Author.Needs.{needs}
 use Rattle.router.proofs.Router.replaced.Statement.{statement}
 use Rattle.router.proofs.Router.replaced.Tie as tie
 
-on-replaced-requires : tie.Need-on-replaced-requires
-on-replaced-requires c κs = search needs
-
 returns : tie.Need-returns
 returns c =
     let s = c .before .before .before .before .before in
     replaces (s .args .self) (s .pre) 0 (replaced (s .args .address)) _ _ _ (c .on-replaced .ensures)
 
 pub replaced-spec : {M : Type 1} → statement M
-replaced-spec = tie.close (tie.spec on-replaced-requires returns)
+replaced-spec = tie.close (tie.spec (λ c κs. search needs) returns)

@@ -5,16 +5,10 @@ use borrow.Author.Needs.{needs}
 use Rattle.router.proofs.Router.route.Statement.{statement}
 use Rattle.router.proofs.Router.route.Tie as tie
 
-on-message-requires : tie.Need-on-message-requires
-on-message-requires c κs = search needs
-
-same-length : tie.Need-same-length
-same-length c = search needs
-
 returns : tie.Need-returns
 returns c =
     let s = c .before .before .before .before .before .before .before .before .before .before in
     routes (s .args .self) (s .pre) _ (message (s .args .message .now)) _ _ _ _ _ (c .before .before .on-message .ensures)
 
 pub route-spec : {M : Type 1} → statement M
-route-spec = tie.close (tie.spec on-message-requires same-length returns)
+route-spec = tie.close (tie.spec (λ c κs. search needs) (λ c. search needs) returns)

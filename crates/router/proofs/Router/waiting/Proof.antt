@@ -4,9 +4,6 @@ use borrow.Author.Needs.{needs}
 use Rattle.router.proofs.Router.waiting.Statement.{statement}
 use Rattle.router.proofs.Router.waiting.Tie as tie
 
-count-owed-requires : tie.Need-count-owed-requires
-count-owed-requires c κs = search needs
-
 sub-result : tie.Need-sub-result
 sub-result c =
     let r = c .before .before .before .before .args .self in
@@ -18,4 +15,4 @@ returns c =
     open-left (r .list) (r .len) _ (c .before .count-owed .ensures)
 
 pub waiting-spec : {M : Type 1} → statement M
-waiting-spec = tie.close (tie.spec count-owed-requires sub-result returns)
+waiting-spec = tie.close (tie.spec (λ c κs. search needs) sub-result returns)
