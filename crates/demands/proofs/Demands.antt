@@ -4,7 +4,7 @@ use Rattle.demands.specs.Demands.{Demands}
 use Rattle.demands.proofs.One.{one-result}
 use Rattle.demands.proofs.Desk.{desk}
 use Rattle.demands.proofs.Cheats.{refuses-all, one-outcome, does-nothing, echoes, made-up}
-use Rattle.demands.proofs.Used.{blank-fresh, start-with-fresh, start-fresh, used-lawful, promise-used, bounded-used, marks-used}
+use Rattle.demands.proofs.Used.{blank-fresh, start-from-fresh, start-with-fresh, start-fresh, used-lawful, promise-used, bounded-used, marks-used}
 
 pub demands : Demands
 demands = record {
@@ -16,6 +16,7 @@ demands = record {
   echoes = echoes;
   made-up = made-up;
   blank-start = blank-fresh;
+  start-from = start-from-fresh;
   start-with = start-with-fresh;
   lent-start = start-fresh;
   kept = λ first f h r u. record {

@@ -9,7 +9,8 @@ use Rattle.tapa.specs.Address.{handlerOf}
 use Rattle.message.specs.Message.{messageOf, responseOf}
 use Rattle.table.specs.declared.Row.{Row}
 use Rattle.table.specs.declared.Rows.{Rows}
-use Rattle.table.specs.Table.{Held, noRows, listed}
+use Rattle.table.specs.declared.SetUp.{SetUp}
+use Rattle.table.specs.Table.{Held, Settled, noRows, listed}
 use Rattle.table.proofs.Judged.{none-proper}
 use Rattle.table.proofs.Read.{none-held}
 use Rattle.places.specs.Places.{standsIn}
@@ -20,18 +21,21 @@ use Rattle.rules.specs.Judge.{Call, message, giveUp, replaced, judge, judgeRepl
 use Rattle.rules.specs.Apply.{applied, written, sent}
 use Rattle.router.specs.declared.Router.{Router}
 use Rattle.router.specs.Router.{viewOf, Lawful}
-use Rattle.start.specs.Start.{blank, startWith, startOf}
-use Rattle.start.proofs.Starts.{fresh-lawful, start-law, lent-law}
+use Rattle.start.specs.Start.{blank, startFrom, startWith, startOf}
+use Rattle.start.proofs.Starts.{fresh-lawful, from-law, start-law, lent-law}
 use Rattle.history.specs.History.{Entry, goesOut}
 use Rattle.history.specs.Marks.{Honest}
 use Rattle.history.specs.Promise.{Ran, begun, going, EachBears, Promise, Bounded}
 use Rattle.history.proofs.Promise.{promise-ran, bounded-ran, marks-ran}
 use Rattle.demands.specs.Used.{Fresh, made, Used, started, routed, gave-up, was-replaced}
 
--- ---- the public starts: over no rows, over rows by value, and over lent rows (`start_from` after `table::set_up`)
+-- ---- the public starts: over no rows, from what set-up hands back, over rows by value, and over lent rows (`start_from` after `setup::set_up`)
 
 pub blank-fresh : Fresh blank
 blank-fresh = record { law = fresh-lawful noRows none-held none-proper; no-places = refl }
+
+pub start-from-fresh : (u : SetUp) → Settled u → Fresh (startFrom u .router)
+start-from-fresh u s = record { law = from-law u s; no-places = refl }
 
 pub start-with-fresh : (t : Rows) → Held t → Fresh (startWith t .router)
 start-with-fresh t h = record { law = start-law t h; no-places = refl }

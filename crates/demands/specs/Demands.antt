@@ -3,10 +3,11 @@ use Prim.Native.Nat.{ℕ}
 use mathlib.Core.List.{List}
 use Rattle.table.specs.declared.Row.{Row}
 use Rattle.table.specs.declared.Rows.{Rows}
-use Rattle.table.specs.Table.{Held}
+use Rattle.table.specs.declared.SetUp.{SetUp}
+use Rattle.table.specs.Table.{Held, Settled}
 use Rattle.router.specs.declared.Router.{Router}
 use Rattle.router.specs.Router.{viewOf, Lawful}
-use Rattle.start.specs.Start.{blank, startWith, startOf}
+use Rattle.start.specs.Start.{blank, startFrom, startWith, startOf}
 use Rattle.history.specs.History.{Entry}
 use Rattle.history.specs.Marks.{Honest}
 use Rattle.history.specs.Promise.{EachBears, Promise, Bounded}
@@ -36,6 +37,7 @@ pub record Demands : Type 0 where
   pub made-up : (p : Printing) → Prints p → MadeUp p → ⊥
   -- 3. Every public start hands back a fresh router, and every run of the code from a fresh router keeps the promise; each premise on marks is needed
   pub blank-start : Fresh blank
+  pub start-from : (set : SetUp) → Settled set → Fresh (startFrom set .router)
   pub start-with : (rows : Rows) → Held rows → Fresh (startWith rows .router)
   pub lent-start : (rows : List Row) → Fresh (startOf rows .router)
   pub kept : (first : Router) → Fresh first → (h : List Entry) (r : Router) → Used first h r → Kept first h r

@@ -12,9 +12,9 @@ use Rattle.table.specs.declared.Row as table
 use Rattle.table.specs.declared.Rows.{Rows}
 use Rattle.table.specs.declared.Checked.{Checked}
 use Rattle.table.specs.declared.Checked.the-variants.{Accepted, Refused}
-use Rattle.table.specs.Table.{heldRows, noRows, withRow, rowsRead, judgeTable, judgeRows}
+use Rattle.table.specs.Table.{heldRows, Held, noRows, withRow, rowsRead, judgeTable, judgeRows}
 use Rattle.table.proofs.Judged.{accepted, judge-reverse, none-proper}
-use Rattle.table.proofs.Read.{none-held, read-held, read-rows, read-next, judge-read}
+use Rattle.table.proofs.Read.{none-held, with-held, read-held, read-rows, read-next, judge-read}
 use Rattle.start.specs.declared.Started.{Started}
 use Rattle.router.specs.declared.Router.{Router}
 use Rattle.router.specs.Router.{viewOf, Lawful}
@@ -23,7 +23,7 @@ use Rattle.start.proofs.Starts.{fresh-lawful, start-law, start-view}
 use Rattle.rules.specs.View.{View}
 use Rattle.fields.specs.declared.NextRow.{NextRow}
 use Rattle.fields.specs.declared.NextRow.the-variants.{Row, Torn, Over}
-use Rattle.fields.specs.Fields.{Steps, Script, torn, row-then}
+use Rattle.fields.specs.Fields.{Steps, Script, torn, begins, row-then}
 use Rattle.fields.specs.Places.{rowAt, stepsAt, scriptAt, scriptBy}
 use Rattle.fields.proofs.Left.{script-at, RowInside, row-inside}
 use Rattle.run.specs.declared.Stage.{Stage}
@@ -57,6 +57,17 @@ module _ (s : List ℕ) (t : Rows) (n at : ℕ) (h : Heading) (go : rowsFrom s t
 
   pub rows-end : (w : Heading) (i : NextRow) → rowAt s at ≡ i → w ≡ headingBy t n at (scriptBy s n at i) → w ≡ h
   rows-end w i e g = g ∙ (sym (ap (headingBy t n at) (script-at s n at ∙ ap (scriptBy s n at) e)) ∙ go)
+
+-- ---- the rows that are read are held
+
+heading-held : (m : Script) (t : Rows) (n at : ℕ) → Held t → Held (headingBy t n at m .rows)
+heading-held (torn m) t n at h = h
+heading-held (begins m) t n at h = h
+heading-held (row-then a o m) t n at h = heading-held m _ (n + 1) (at + 6) (with-held t (record { address = a; opened = o }) h)
+
+pub rows-held : (s : List ℕ) (x : Heading) → x ≡ headingOf s → Held (x .rows)
+unfolding headingOf
+rows-held s x e = subst (λ (y : Heading). Held (y .rows)) (sym e) (heading-held (scriptAt s 1 0) noRows 1 0 none-held)
 
 -- ---- the returns of `stage_after` and `started`
 

@@ -18,6 +18,7 @@ use tapa::Refusal;
 ghost use mathlib.Core.Path.{_≡_};
 ghost use Prim.Native.Nat.{_≤_};
 ghost use lib.ListN.{length};
+ghost use Rattle.table.specs.Table.{Held};
 ghost use Rattle.router.specs.Router.{viewOf, Lawful};
 ghost use Rattle.fields.specs.Fields.{message, give-up, replaced};
 ghost use Rattle.fields.specs.Places.{between};
@@ -324,6 +325,7 @@ fn stage_after(torn: bool, number: usize, answer: Checked) -> Stage
 
 // The table is checked, and the first line is number 1.
 fn started(heading: Heading) -> Session
+    requires { ⌜ Held (heading .rows) ⌝ }
     ensures { λ r. ⌜ r ≡ startedBy heading ⌝ }
 {
     let rows = heading.rows;

@@ -1,14 +1,14 @@
 -- What a start hands back: over an accepted table a fresh router that keeps the law.
-use mathlib.Core.Path.{_≡_, refl, ap, subst, _∙_}
+use mathlib.Core.Path.{_≡_, ap, _∙_}
 use mathlib.Core.List.{List, reverse}
 use Rattle.table.specs.declared.Row.{Row}
 use Rattle.table.specs.declared.Rows.{Rows}
 use Rattle.table.specs.declared.Checked.{Checked}
 use Rattle.table.specs.declared.SetUp.{SetUp}
-use Rattle.table.specs.declared.Checked.the-variants.{Accepted, Refused}
-use Rattle.table.specs.Table.{heldRows, Held, judgeRows, judgeTable, keptBy, rowsRead, noRows, Proper}
-use Rattle.table.proofs.Judged.{accepted, none-proper}
-use Rattle.table.proofs.Read.{none-held, read-held, read-rows, rows-proper, set-up-read}
+use Rattle.table.specs.declared.Checked.the-variants.{Accepted}
+use Rattle.table.specs.Table.{heldRows, Held, judgeRows, judgeTable, keptBy, rowsRead, Proper, setUpWith, setUpOf, Settled}
+use Rattle.table.proofs.Judged.{accepted}
+use Rattle.table.proofs.Read.{read-rows, set-up-settled, lent-settled}
 use Rattle.places.proofs.Points as points
 use Rattle.rules.specs.View.{fresh}
 use Rattle.rules.proofs.Kept.{conduct-fresh}
@@ -24,12 +24,14 @@ fresh-lawful t h p = record {
 }
 
 -- 'the law shown of every state that a start .. hands back': also of the blank router that a refused table leaves
+pub from-law : (u : SetUp) → Settled u → Lawful (startFrom u .router)
+from-law u s = fresh-lawful (u .rows) (s .held) (s .proper)
+
 pub start-law : (t : Rows) → Held t → Lawful (startWith t .router)
-start-law t h = go (judgeRows t) refl
-  where
-    go : (c : Checked) → judgeRows t ≡ c → Lawful (freshOver (keptBy c t))
-    go Accepted e = fresh-lawful t h (rows-proper t e)
-    go (Refused r) e = fresh-lawful noRows none-held none-proper
+start-law t h = from-law (setUpWith t) (set-up-settled t h)
+
+pub lent-law : (rows : List Row) → Lawful (startOf rows .router)
+lent-law rows = from-law (setUpOf rows) (lent-settled rows)
 
 -- of rows by value
 pub start-view : (t : Rows) → judgeRows t ≡ Accepted → viewOf (startWith t .router) ≡ fresh (heldRows t)
@@ -39,6 +41,3 @@ start-view t e = ap (λ (c : Checked). viewOf (freshOver (keptBy c t))) e
 pub lent-view : (rows : List Row) → judgeTable rows ≡ Accepted → viewOf (startOf rows .router) ≡ fresh (reverse rows)
 lent-view rows e =
     ap (λ (c : Checked). viewOf (freshOver (keptBy c (rowsRead rows)))) e ∙ ap fresh (read-rows rows (accepted rows e .few))
-
-pub lent-law : (rows : List Row) → Lawful (startOf rows .router)
-lent-law rows = subst (λ (u : SetUp). Lawful (startFrom u .router)) (set-up-read rows) (start-law (rowsRead rows) (read-held rows))

@@ -7,6 +7,7 @@ use table::Checked;
 use table::Rows;
 use table::SetUp;
 ghost use mathlib.Core.Path.{_≡_};
+ghost use Rattle.table.specs.Table.{Held, Settled};
 ghost use Rattle.start.specs.Start.{blank as blankRouter, startFrom, startWith};
 
 // What a start answers, and the router; a refused table leaves a blank one.
@@ -29,6 +30,7 @@ pub fn blank() -> Router
 
 // A fresh router over a table that was set up.
 pub fn start_from(set: SetUp) -> Started
+    requires { ⌜ Settled set ⌝ }
     ensures { λ r. ⌜ r ≡ startFrom set ⌝ }
 {
     let answer = set.answer;
@@ -45,6 +47,7 @@ pub fn start_from(set: SetUp) -> Started
 
 // A fresh router over rows by value.
 pub fn start_with(rows: Rows) -> Started
+    requires { ⌜ Held rows ⌝ }
     ensures { λ r. ⌜ r ≡ startWith rows ⌝ }
 {
     start_from(setup::set_up_with(rows))

@@ -1,6 +1,6 @@
 -- Rows that are read one by one: what is held then, and that the table is judged as the list of all lent rows.
 use Prim.Native.Nat.{ℕ, zero, suc, _+_, _≤_, _<_}
-use mathlib.Core.Path.{_≡_, refl, sym, ap, _∙_}
+use mathlib.Core.Path.{_≡_, refl, sym, ap, subst, _∙_}
 use mathlib.Core.Bool.{Bool, true, false}
 use mathlib.Core.List.{List, [], _∷_, _++_, reverseAux, reverse, append-nil}
 use native.Mathlib.Nat.{not-suc-le-zero, le-of-suc-le-suc}
@@ -18,9 +18,9 @@ use Rattle.table.specs.declared.Rows.{Rows}
 use Rattle.table.specs.declared.Checked.{Checked}
 use Rattle.table.specs.declared.Checked.the-variants.{Accepted, Refused}
 use Rattle.table.specs.Said.{saidChecked}
-use Rattle.table.specs.Table.{pack, unpack, Proper, heldRows, Held, noRows, withRow, withRows, rowsRead, column, firstRows, judgeTable, judgeRows, keptBy, setUpWith, setUpOf}
+use Rattle.table.specs.Table.{pack, unpack, Proper, heldRows, Held, noRows, withRow, withRows, rowsRead, column, firstRows, judgeTable, judgeRows, keptBy, setUpWith, setUpOf, Settled}
 use Rattle.table.proofs.Cells.{row-back, exact}
-use Rattle.table.proofs.Judged.{judge-many, judge-reverse, accepted}
+use Rattle.table.proofs.Judged.{judge-many, judge-reverse, accepted, none-proper}
 
 -- ---- one row more
 
@@ -125,13 +125,16 @@ pub says-more : (t : Rows) → t .more ≡ true → saidChecked (judgeRows t) �
 unfolding judgeRows
 says-more t e = rw e
 
--- what set-up leaves is lawful
-pub kept-held : (c : Checked) (t : Rows) → Held t → Held (keptBy c t)
-kept-held Accepted t h = h
-kept-held (Refused r) t h = none-held
+-- what set-up leaves is lawful, also after a refusal
+pub set-up-settled : (t : Rows) → Held t → Settled (setUpWith t)
+set-up-settled t h = go (judgeRows t) refl
+  where
+    go : (c : Checked) → judgeRows t ≡ c → Settled (record { answer = c; rows = keptBy c t })
+    go Accepted e = record { held = h; proper = rows-proper t e }
+    go (Refused r) e = record { held = none-held; proper = none-proper }
 
-pub set-up-held : (rows : List Row) → Held (setUpOf rows .rows)
-set-up-held rows = kept-held (judgeTable rows) (rowsRead rows) (read-held rows)
+pub lent-settled : (rows : List Row) → Settled (setUpOf rows)
+lent-settled rows = subst Settled (set-up-read rows) (set-up-settled (rowsRead rows) (read-held rows))
 
 -- ---- the same said at once
 

@@ -168,3 +168,8 @@ setUpWith t = record { answer = judgeRows t; rows = keptBy (judgeRows t) t }
 
 abbrev pub setUpOf : List Row → SetUp
 setUpOf rows = record { answer = judgeTable rows; rows = keptBy (judgeTable rows) (rowsRead rows) }
+
+-- the law of what set-up hands back: its rows are held, and they are a table or none at all
+pub record Settled (u : SetUp) : Type 0 where
+  pub held : Held (u .rows)
+  pub proper : Proper (heldRows (u .rows))

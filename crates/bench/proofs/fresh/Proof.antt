@@ -10,6 +10,9 @@ use borrow.Author.Needs.{needs}
 use Rattle.bench.proofs.fresh.Statement.{statement}
 use Rattle.bench.proofs.fresh.Tie as tie
 
+start-with-requires : tie.Need-start-with-requires
+start-with-requires c κs = subst (λ (t : Rows). Held t) (sym (c .no-rows .ensures)) none-held
+
 returns : tie.Need-returns
 returns c =
     let held : Held (c .before .before .no-rows .result) = subst (λ (t : Rows). Held t) (sym (c .before .before .no-rows .ensures)) none-held in (
@@ -26,4 +29,4 @@ returns c =
     )
 
 pub fresh-spec : {M : Type 1} → statement M
-fresh-spec = tie.close (tie.spec (λ c κs. search needs) (λ c κs. search needs) (λ c κs. search needs) (λ c κs. search needs) returns)
+fresh-spec = tie.close (tie.spec (λ c κs. search needs) (λ c κs. search needs) (λ c κs. search needs) start-with-requires returns)

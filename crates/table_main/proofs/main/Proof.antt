@@ -2,15 +2,14 @@
 use mathlib.Core.Path.{subst, sym}
 use lib.ListN.{take}
 use borrow.Author.Needs.{needs}
-use Rattle.table.specs.declared.SetUp.{SetUp}
-use Rattle.table.specs.Table.{Held}
-use Rattle.table.proofs.Read.{set-up-held}
+use Rattle.table.specs.Table.{Settled}
+use Rattle.table.proofs.Read.{lent-settled}
 use Rattle.table_main.proofs.main.Statement.{statement}
 use Rattle.table_main.proofs.main.Tie as tie
 
 say-look-ups-requires : tie.Need-say-look-ups-requires
 say-look-ups-requires c κs =
-    subst (λ (d : SetUp). Held (d .rows)) (sym (c .set-up-own .ensures)) (set-up-held (take 16 (c .before .before .before .plenty .result)))
+    subst Settled (sym (c .set-up-own .ensures)) (lent-settled (take 16 (c .before .before .before .plenty .result))) .held
 
 pub main-spec : {M : Type 1} → statement M
 main-spec =
