@@ -5,8 +5,8 @@
 // parts' states go from field to field. docs/WORKBENCH.md has the table of tags.
 //
 // What is proved: no input stops the bench, the parts are called within their laws, every field
-// is counted from 1, and its line begins with its number and lies in the lent buffer. The parts
-// promise what they answer; crate `answers` writes it.
+// is counted from 1, the line of a whole field begins with its number, and every line lies in the
+// lent buffer. The parts promise what they answer; crate `answers` writes it.
 use answers::Came;
 use cutter::Start;
 use fields::Read;

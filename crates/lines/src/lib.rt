@@ -3,7 +3,7 @@
 // Each function writes one line into a lent buffer from a place on, and answers the place after it.
 // The contracts are the equations of crate `text`, so every byte of the buffer is fixed, also where
 // it is too small. What a step's line says is what the rules say of its outcome, as text.
-// No line has more than 64 bytes: proofs/Short.antt.
+// With numbers of at most five digits no line has more than 64 bytes: proofs/Short.antt.
 use rules::Outcome;
 use tapa::Refusal;
 ghost use mathlib.Core.Path.{_≡_};

@@ -55,7 +55,7 @@ abbrev pub fitting : (room : ℕ) → List (List ℕ) → ℕ
 fitting n [] = 0
 fitting n (l ∷ ls) = cond (ltb n 64) 0 (suc (fitting (n - length l) ls))
 
--- whether it is full before the lines are over
+-- whether it is full before the end of the lines is seen: where fewer than 64 bytes are left, the end is not asked for
 abbrev pub full : (room : ℕ) → List (List ℕ) → Bool
 full n [] = ltb n 64
 full n (l ∷ ls) = cond (ltb n 64) true (full (n - length l) ls)

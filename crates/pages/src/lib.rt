@@ -12,7 +12,7 @@ ghost use mathlib.Core.Bool.{not};
 ghost use Rattle.run.specs.State.{handsOut};
 ghost use Rattle.pages.specs.Pages.{Ready, Paged};
 
-// How many bytes of a page are used, and whether it was full before the lines were over.
+// How many bytes of a page are used, and whether it was full before the end of the lines was seen.
 pub struct Page {
     pub used: usize,
     pub more: bool,

@@ -3,7 +3,7 @@
 // The lines that an input prescribes are a definition over its bytes, `prescribed`: the line of each
 // item of its run, in order. Every line ends in LF and has no other (proofs/Ends.antt), none has more
 // than 64 bytes (proofs/Short.antt), and the last line of a session without a broken field has the
-// totals of its history (proofs/Totals.antt).
+// totals of its history (proofs/Sums.antt).
 use run::Item;
 ghost use mathlib.Core.Path.{_≡_};
 ghost use Rattle.text.specs.Text.{pen, puts};

@@ -1,7 +1,9 @@
 // Runs any part of the base on any bytes: fields in, one line a field out (docs/WORKBENCH.md).
 //
-// It reads standard input, or each file that an argument names; crate `inputs` says what cannot
-// be read or written. The work is in crate `bench`.
+// Usage: ./kiosk workbench [FILE..]
+//
+// Without a file it reads standard input. An input has at most 65,536 bytes. docs/WORKBENCH.md has
+// the table of fields, and examples/workbench.hex an example.
 
 // Prints the lines of one input, one at a time; false where they cannot be written.
 fn show(program: &[u8], input: &[u8]) -> bool {
