@@ -3,6 +3,7 @@ use mathlib.Core.Path.{_≡_}
 use Rattle.lists.proofs.Tests.{one-value}
 use Rattle.message.proofs.Once as message
 use Rattle.table.proofs.Once as table
+use Rattle.place.proofs.Once as place
 use Rattle.places.proofs.Once as places
 use Rattle.ruling.proofs.Once as ruling
 use Rattle.routing.proofs.Once as routing
@@ -14,6 +15,7 @@ use Rattle.cutter.proofs.Once as cutter
 use Rattle.joiner.proofs.Once as joiner
 use Rattle.run.proofs.Once as run
 use Rattle.pages.proofs.Once as pages
+use Rattle.hexes.proofs.Once as hexes
 use Rattle.demands.specs.One.{One, OneResult}
 
 -- an equation leaves one value
@@ -25,6 +27,7 @@ one-result = record {
   write = λ d s k t part before w v a b. message.one-write d s k t part before a b w v;
   data-part = message.one-data-part;
   set-open = λ before n h to m k. table.one-set-open before m k n h to;
+  pack-of = place.one-pack-of;
   list = λ ps n k l m. places.one-list ps l m n k;
   rule-for = ruling.one-rule-for;
   on-message = routing.one-on-message;
@@ -47,4 +50,6 @@ one-result = record {
   session-begin = run.one-begin;
   session-next = run.one-next;
   fill-page = λ input w before p q a b. pages.one-fill-page input w before a b p q;
+  hex-read = hexes.one-read;
+  hex-write = hexes.one-write;
 }

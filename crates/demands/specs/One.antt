@@ -12,6 +12,7 @@ use Rattle.message.specs.declared.Head.{Head}
 use Rattle.message.specs.Message.{Wrote, DataPart}
 use Rattle.table.specs.Table.{Opened}
 use Rattle.place.specs.declared.Place.{Place}
+use Rattle.place.specs.Place.{Packed}
 use Rattle.places.specs.Places.{Becomes}
 use Rattle.rules.specs.declared.Outcome.{Outcome}
 use Rattle.router.specs.declared.Router.{Router}
@@ -34,6 +35,9 @@ use Rattle.run.specs.declared.Session.{Session}
 use Rattle.run.specs.State.{Turns}
 use Rattle.run.specs.Start as run
 use Rattle.pages.specs.Pages.{Paged}
+use Rattle.hexes.specs.declared.Cursor as hexes
+use Rattle.hexes.specs.Reading.{Reads}
+use Rattle.hexes.specs.Writing.{Writes}
 
 -- one answer is left
 abbrev pub One : {A : Type 0} → (A → Type 0) → Type 0
@@ -56,6 +60,8 @@ pub record OneResult : Type 0 where
   pub data-part : (message : RefT (List ℕ)) → OnePart (DataPart message)
   -- table: the rows' numbers
   pub set-open : (before : List ℕ) (count handler : ℕ) (to : Bool) → One (λ after. Opened before after count handler to)
+  -- place: the number of a place
+  pub pack-of : (p : Place) → One (Packed p)
   -- places: the count and the list (push, owe, remove, drop_owed)
   pub list : (places : List Place) → OneWith (λ count after. Becomes after count places)
   -- ruling
@@ -96,3 +102,6 @@ pub record OneResult : Type 0 where
   pub session-begin : (input : List ℕ) → One (run.Begins input)
   pub session-next : (input : List ℕ) (r : Router) (c : Cursor) → One (Turns input r c)
   pub fill-page : (input : List ℕ) (w : Session) (before : List ℕ) → OneWith (λ p after. Paged input w before after p)
+  -- hexes
+  pub hex-read : (text before : List ℕ) → OneWith (λ r after. Reads text before after r)
+  pub hex-write : (c : hexes.Cursor) (part before : List ℕ) → OneWith (λ r after. Writes c part before after r)

@@ -1,3 +1,4 @@
 pub mod Writing
 pub mod Reading
 pub mod Back
+pub mod Once
