@@ -99,8 +99,8 @@ judge es (Find s) =
     ∷ (isEmpty es, Coded noEvents)
     ∷ [])
     (takenOr noMatchingEvents (sought (first (meets s) es)))
--- 'Flush answers '0000' and empties the queue, also where it was empty.'
-judge es Flush = Emptied
+-- 'Flush answers '0000' and empties the queue'; of an empty one request 01 has: 'it answers 'FF72' and stays empty'
+judge es Flush = cond (isEmpty es) (Coded noEvents) Emptied
 -- 'gives 'FFFB''
 judge es Wrong = Coded unsupportedOperation
 

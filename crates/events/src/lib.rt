@@ -225,7 +225,11 @@ fn judge(queue: Queue, command: Command) -> Outcome
         Command::WrongAdd => Outcome::Ignored,
         Command::Get => taken_or(tapa::NO_EVENTS, queue.oldest()),
         Command::Find(search) => judge_find(queue, search),
-        Command::Flush => Outcome::Emptied,
+        // Success is said only where there was something to flush.
+        Command::Flush => match queue.oldest() {
+            Sought::Nothing => Outcome::Coded(tapa::NO_EVENTS),
+            Sought::One(_) => Outcome::Emptied,
+        },
         Command::Wrong => Outcome::Coded(tapa::UNSUPPORTED_OPERATION),
     }
 }

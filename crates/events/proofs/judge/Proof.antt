@@ -1,6 +1,8 @@
 -- `events::judge` meets its contract: an arm for each command. Assumes nothing.
 use mathlib.Core.Path.{sym, _∙_}
+use Rattle.queue.specs.Places.{eventsOf}
 use Rattle.events.specs.Events.{judge}
+use Rattle.events.proofs.Judging.{none-empty, one-filled}
 use borrow.Author.Needs.{needs}
 use Rattle.events.proofs.judge.Statement.{statement}
 use Rattle.events.proofs.judge.Tie as tie
@@ -26,11 +28,19 @@ returns-5 c = rw (c .before .before .command2 .given .1) (c .judge-find .ensures
 
 returns-6 : tie.Need-returns-6
 unfolding judge
-returns-6 c = rw (c .enum-told3 .given .1)
+returns-6 c =
+    let o = c .before .before in
+    rw (o .before .enum-told3 .given .1, none-empty (eventsOf (o .before .before .before .args .queue)) (sym (o .oldest2 .ensures) ∙ c .enum-told4 .given .1))
 
 returns-7 : tie.Need-returns-7
 unfolding judge
-returns-7 c = rw (c .enum-told4 .given .1)
+returns-7 c =
+    let o = c .before .before in
+    rw (o .before .enum-told3 .given .1, one-filled (eventsOf (o .before .before .before .args .queue)) _ (sym (o .oldest2 .ensures) ∙ c .enum-told5 .given .1))
+
+returns-8 : tie.Need-returns-8
+unfolding judge
+returns-8 c = rw (c .enum-told6 .given .1)
 
 pub judge-spec : {M : Type 1} → statement M
 judge-spec =
@@ -45,6 +55,9 @@ judge-spec =
     (λ c. search needs)
     (λ c κs. search needs)
     (λ c. search needs)
+    (λ c κs. search needs)
+    (λ c. search needs)
+    (λ c. search needs)
     (λ c. search needs)
     returns
     returns-2
@@ -52,4 +65,5 @@ judge-spec =
     returns-4
     returns-5
     returns-6
-    returns-7)
+    returns-7
+    returns-8)
