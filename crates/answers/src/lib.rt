@@ -75,11 +75,11 @@ pub fn of_writing(word: usize, writing: Writing) -> Came {
     }
 }
 
-pub fn of_event(answer: events::Answer) -> Came {
+pub fn of_event(answer: replies::Answer) -> Came {
     match answer {
-        events::Answer::Reply(n) => Came::Number(REPLY, n),
-        events::Answer::Nothing => Came::Plain(NOTHING),
-        events::Answer::Refused(refusal) => refused(refusal),
+        replies::Answer::Reply(n) => Came::Number(REPLY, n),
+        replies::Answer::Nothing => Came::Plain(NOTHING),
+        replies::Answer::Refused(refusal) => refused(refusal),
     }
 }
 

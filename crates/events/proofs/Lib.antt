@@ -1,4 +1,4 @@
+pub mod Handling
 pub mod Judging
 pub mod Once
-pub mod Replies
 pub mod Sums

@@ -2,9 +2,9 @@
 use Prim.Native.Nat.{ℕ}
 use mathlib.Core.Path.{_≡_, sym, _∙_}
 use mathlib.Core.List.{List}
+use Rattle.replies.specs.declared.Answer.{Answer}
 use Rattle.queue.specs.declared.Queue.{Queue}
 use Rattle.queue.proofs.Once.{one-queue}
-use Rattle.events.specs.declared.Answer.{Answer}
 use Rattle.events.specs.declared.Handled.{Handled}
 use Rattle.events.specs.Events.{Result, Handling}
 

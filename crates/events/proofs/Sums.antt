@@ -15,12 +15,12 @@ use Rattle.tapa.specs.Said.{says, reply as replies}
 use Rattle.message.specs.Message.{headOf, partOf, responseOf}
 use Rattle.message.proofs.Laws.{part-of-message}
 use Rattle.message.proofs.Sums.{c2}
+use Rattle.replies.specs.declared.Answer.the-variants.{Reply}
+use Rattle.replies.specs.Said.{saidAnswer}
 use Rattle.queue.specs.declared.Event.{Event}
-use Rattle.events.specs.declared.Answer.the-variants.{Reply}
 use Rattle.events.specs.declared.Checked.the-variants.{Passed}
 use Rattle.events.specs.declared.Command.the-variants.{Get, Flush}
 use Rattle.events.specs.Events.{elsewhere, checked, commandOf, judge, apply, Result, handled}
-use Rattle.events.specs.Said.{saidAnswer}
 
 module _ (s : List ℕ) (short : length s ≡ 8) (none : wordAt s 6 ≡ 0) where
   no-data : length (partOf s) ≡ 0

@@ -6,7 +6,7 @@ use mathlib.Core.List.{List, [], _∷_, _++_}
 use mathlib.Core.Option.{Option, none, some}
 use lib.Dec.{eqb, ltb}
 use lib.ListN.{length, getD}
-use Rattle.lists.specs.Lists.{checks, first, without, onto}
+use Rattle.lists.specs.Lists.{checks, first, without}
 use Rattle.tapa.specs.Address.{handlerOf}
 use Rattle.tapa.specs.Codes.{successful, unsupportedOperation, noEvents, noMatchingEvents, response, addEvent, getEvent, findEvent, flushQueue, eventHandler}
 use Rattle.tapa.specs.Numbers.{wordAt, twoBytes}
@@ -15,7 +15,10 @@ use Rattle.tapa.specs.declared.Refusal.the-variants.{BufferTooSmall, NotThisPar
 use Rattle.message.specs.declared.Head.{Head}
 use Rattle.message.specs.declared.Reading.{Reading}
 use Rattle.message.specs.declared.Reading.the-variants.{Message, Refused as NoMessage}
-use Rattle.message.specs.Message.{readOf, partOf, messageOf}
+use Rattle.message.specs.Message.{readOf, partOf}
+use Rattle.replies.specs.declared.Answer.{Answer}
+use Rattle.replies.specs.declared.Answer.the-variants.{Refused}
+use Rattle.replies.specs.Replies.{answerOf, replied}
 use Rattle.queue.specs.declared.Event.{Event}
 use Rattle.queue.specs.declared.Search.{Search}
 use Rattle.queue.specs.declared.Sought.{Sought}
@@ -28,8 +31,6 @@ use Rattle.events.specs.declared.Outcome.{Outcome}
 use Rattle.events.specs.declared.Outcome.the-variants.{Added, Ignored, Taken, Emptied, Coded}
 use Rattle.events.specs.declared.Checked.{Checked}
 use Rattle.events.specs.declared.Checked.the-variants.{Passed, Failed}
-use Rattle.events.specs.declared.Answer.{Answer}
-use Rattle.events.specs.declared.Answer.the-variants.{Reply, Nothing, Refused}
 use Rattle.events.specs.declared.Handled.{Handled}
 
 -- ---- the checks
@@ -122,16 +123,6 @@ carried (Taken e) = some (e .kind ∷ (twoBytes (e .location) ++ twoBytes succes
 carried Emptied = some (twoBytes successful)
 carried (Coded code) = some (twoBytes code)
 
--- the answer is the reply's length
-abbrev pub answerOf : Option (List ℕ) → Answer
-answerOf none = Nothing
-answerOf (some part) = Reply (8 + length part)
-
--- 'Source and destination are swapped exactly; lent bytes after the reply stay.'
-abbrev pub replied : Head → Option (List ℕ) → List ℕ → List ℕ
-replied h none buffer = buffer
-replied h (some part) buffer = onto (messageOf (h .source) (h .destination) response (h .thread) part) buffer
-
 -- ---- all of it
 
 -- what a message comes to: the answer, the events that the queue then holds, and the whole lent buffer
@@ -155,11 +146,6 @@ unfoldable pub handled : List Event → List ℕ → List ℕ → Result
 handled es message reply = obeys (checked (length reply) message) es (partOf message) reply
 
 -- ---- what the functions promise
-
--- what a response came to: the answer, and what the lent buffer then holds
-pub record Answers (h : Head) (part : Option (List ℕ)) (before after : List ℕ) (a : Answer) : Type 0 where
-  pub answer : a ≡ answerOf part
-  pub reply : after ≡ replied h part before
 
 -- a call that came to this: its answer and next queue, and what the lent buffer then holds
 pub record Handling (w : Result) (after : List ℕ) (h : Handled) : Type 0 where

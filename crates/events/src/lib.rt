@@ -3,19 +3,21 @@
 // A message is checked, read as a command, judged against the events that are held, and only then
 // is anything done. A queue goes in by value and comes back by value beside the answer. How it
 // keeps its events is the room `queue`'s; what is promised here speaks of the list of them alone.
+// How a reply is written is the room `replies`'s; what it carries is decided here.
 use message::Head;
 use message::Reading;
-use message::Writing;
 use queue::Event;
 use queue::Queue;
 use queue::Search;
 use queue::Sought;
+use replies::Answer;
 use tapa::Refusal;
 ghost use mathlib.Core.Path.{_≡_};
 ghost use Prim.Native.Nat.{_+_, _≤_};
 ghost use lib.ListN.{length};
+ghost use Rattle.replies.specs.Replies.{Answers};
 ghost use Rattle.queue.specs.Places.{eventsOf, Lawful, Holds};
-ghost use Rattle.events.specs.Events.{elsewhere, checked, eventAt, commandOf, takenOr, judge, apply, carried, handled, Answers, Handling};
+ghost use Rattle.events.specs.Events.{elsewhere, checked, eventAt, commandOf, takenOr, judge, apply, carried, handled, Handling};
 
 // A message that is the queue's, or why it is not looked at further.
 enum Checked {
@@ -40,13 +42,6 @@ enum Outcome {
     Taken(Event),
     Emptied,
     Coded(u16),
-}
-
-// The length of the reply in the lent buffer, or why there is none.
-pub enum Answer {
-    Reply(usize),
-    Nothing,
-    Refused(Refusal),
 }
 
 // What a message came to, beside the queue as it then is.
@@ -135,15 +130,6 @@ fn read_command(kind: u8, part: &[u8]) -> Command
 
 // ---- the reply
 
-// A response that carries its code alone.
-fn reply_code(reply: &mut [u8], head: Head, code: u16) -> Answer
-    requires { ⌜ 13 ≤ length (now reply) ⌝ }
-    ensures { λ r. ⌜ Answers head (carried (Outcome.Coded code)) (now (reply .entry)) (now (reply .exit)) r ⌝ }
-{
-    message::respond(reply, head.source, head.destination, head.thread, code);
-    Answer::Reply(10)
-}
-
 // A response that carries a found event and the code of success.
 fn reply_event(reply: &mut [u8], head: Head, event: Event) -> Answer
     requires { ⌜ 13 ≤ length (now reply) ⌝ }
@@ -156,17 +142,7 @@ fn reply_event(reply: &mut [u8], head: Head, event: Event) -> Answer
         0,
         0,
     ];
-    match message::write(
-        reply,
-        head.source,
-        head.destination,
-        tapa::RESPONSE,
-        head.thread,
-        &part,
-    ) {
-        Writing::Written(n) => Answer::Reply(n),
-        Writing::Refused(refusal) => Answer::Refused(refusal),
-    }
+    replies::with_part(reply, head, &part)
 }
 
 // The reply that an outcome has, if any.
@@ -178,8 +154,8 @@ fn answered(reply: &mut [u8], head: Head, outcome: Outcome) -> Answer
         Outcome::Added(_) => Answer::Nothing,
         Outcome::Ignored => Answer::Nothing,
         Outcome::Taken(event) => reply_event(reply, head, event),
-        Outcome::Emptied => reply_code(reply, head, tapa::SUCCESSFUL),
-        Outcome::Coded(code) => reply_code(reply, head, code),
+        Outcome::Emptied => replies::with_code(reply, head, tapa::SUCCESSFUL),
+        Outcome::Coded(code) => replies::with_code(reply, head, code),
     }
 }
 

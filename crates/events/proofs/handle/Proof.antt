@@ -4,7 +4,7 @@ use lib.ListN.{length}
 use Rattle.events.specs.declared.Checked.the-variants.{Passed}
 use Rattle.events.specs.Events.{checked, commandOf, judge}
 use Rattle.queue.specs.Places.{eventsOf}
-use Rattle.events.proofs.Replies.{passed-room, refusing, obeyed}
+use Rattle.events.proofs.Handling.{passed-room, refusing, obeyed}
 use borrow.Author.Needs.{needs}
 use Rattle.events.proofs.handle.Statement.{statement}
 use Rattle.events.proofs.handle.Tie as tie
