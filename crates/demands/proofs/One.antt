@@ -9,6 +9,7 @@ use Rattle.ruling.proofs.Once as ruling
 use Rattle.routing.proofs.Once as routing
 use Rattle.router.proofs.Once as router
 use Rattle.sending.proofs.Once as sending
+use Rattle.replies.proofs.Once as replies
 use Rattle.queue.proofs.Once as queue
 use Rattle.events.proofs.Once as events
 use Rattle.cutter.proofs.Once as cutter
@@ -37,6 +38,7 @@ one-result = record {
   give-up = λ r thread before x y a b. router.one-give-up r x y thread before a b;
   replaced = λ r address x y. router.one-replaced r x y address;
   part-to-send = sending.one-part-to-send;
+  reply = λ h part before x y a b. replies.one-reply h part before a b x y;
   queue = λ es p q. queue.one-queue p q es;
   handle = λ w h k a b. events.one-handle w a b h k;
   part-to-cut = λ message x y p q. let s = cutter.one-part-to-cut message x y p q in (s .bytes, s .place);

@@ -21,6 +21,7 @@ use Rattle.routing.specs.declared.Step.{Step}
 use Rattle.routing.specs.Steps.{OnMessage, OnGiveUp, OnReplaced}
 use Rattle.router.specs.Router.{Routes, GivesUp, Replaces}
 use Rattle.sending.specs.Sending.{Sending}
+use Rattle.replies.specs.Replies.{Replies}
 use Rattle.queue.specs.declared.Event.{Event}
 use Rattle.queue.specs.Places.{Holds}
 use Rattle.events.specs.Events.{Result, Handling}
@@ -84,6 +85,8 @@ pub record OneResult : Type 0 where
   pub give-up : (r : Router) (thread : ℕ) (before : List ℕ) → OneWith (λ out after. GivesUp r thread before after out)
   pub replaced : (r : Router) (address : ℕ) → One (Replaces r address)
   pub part-to-send : (o : Outcome) (message reply : RefT (List ℕ)) → OnePart (Sending o message reply)
+  -- replies (with_part, with_code)
+  pub reply : (h : Head) (part before : List ℕ) → OneWith (λ a after. Replies h part before after a)
   -- queue (fresh, with, taken), events
   pub queue : (events : List Event) → One (λ q. Holds q events)
   pub handle : (w : Result) → OneWith (λ h after. Handling w after h)
