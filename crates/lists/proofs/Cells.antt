@@ -1,8 +1,9 @@
 -- Laws of the cells of an array: what a store keeps.
-use Prim.Native.Nat.{ℕ, zero, suc, _<_}
-use mathlib.Core.Path.{_≡_, refl}
+use Prim.Native.Nat.{ℕ, zero, suc, _-_, _<_}
+use mathlib.Core.Path.{_≡_, refl, ap, _∙_}
 use mathlib.Core.List.{List, [], _∷_}
-use lib.ListN.{replicate, getD, set}
+use native.Mathlib.Omega.{arith}
+use lib.ListN.{replicate, drop, getD, set}
 
 -- each cell of an array of one value holds it, and so does what stands for a cell past its end
 pub same-all : {A : Type 0} (n j : ℕ) (d : A) → getD (replicate n d) j d ≡ d
@@ -21,3 +22,9 @@ set-all P (x ∷ l) (suc i) v g h (suc j) = set-all P l i v g (λ k. h (suc k)) 
 -- so numbers below a bound stay below it
 pub set-small : (l : List ℕ) (i v b : ℕ) → v < b → ((j : ℕ) → getD l j 0 < b) → (j : ℕ) → getD (set l i v) j 0 < b
 set-small l i v b g h = set-all (λ (x : ℕ). x < b) l i v g h
+
+-- the end of an array of one value
+pub drop-replicate : (n m v : ℕ) → drop n (replicate m v) ≡ replicate (m - n) v
+drop-replicate zero m v = ap (λ (k : ℕ). replicate k v) (let e : m ≡ m - 0 = omega arith in e)
+drop-replicate (suc n) zero v = ap (λ (k : ℕ). replicate k v) (let e : 0 ≡ 0 - suc n = omega arith in e)
+drop-replicate (suc n) (suc m) v = drop-replicate n m v ∙ ap (λ (k : ℕ). replicate k v) (let e : m - n ≡ suc m - suc n = omega arith in e)

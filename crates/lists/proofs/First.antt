@@ -1,14 +1,15 @@
 -- Laws of the first that passes: found, taken out, changed.
-use Prim.Native.Nat.{suc, _+_, _≤_}
-use mathlib.Core.Path.{_≡_, refl}
-use mathlib.Core.Bool.{Bool, true, false, not, or-true}
+use Prim.Native.Nat.{_+_, suc, _≤_}
+use mathlib.Core.Bool.{Bool, false, not, or-true, true}
 use mathlib.Core.List.{List, [], _∷_}
 use mathlib.Core.Option.{none, some}
+use mathlib.Core.Path.{ap, refl, _≡_}
+use native.Mathlib.Nat.{le-of-eq}
 use native.Mathlib.Omega.{arith}
 use lib.ListN.{length}
-use Rattle.lists.specs.Lists.{one, count, someOf, keep, first, without, changed, find, All}
-use Rattle.lists.proofs.Tests.{split, clash, differ, or-no}
 use Rattle.lists.proofs.Counts.{keep-all}
+use Rattle.lists.proofs.Tests.{clash, differ, or-no, split}
+use Rattle.lists.specs.Lists.{All, changed, count, find, first, keep, one, someOf, without}
 
 module _ {A : Type 0} where
   -- ---- the first that passes
@@ -120,3 +121,19 @@ module _ {A : Type 0} where
   pub All-changed : (P : A → Type 0) (g : A → A) (q : A → Bool) → ((x : A) → P x → P (g x)) → (l : List A) → All P l → All P (changed g q l)
   All-changed P g q f [] a = tt
   All-changed P g q f (x ∷ l) a = split (q x) (λ p. rw p (f x (a .0), a .1)) (λ p. rw p (a .0, All-changed P g q f l (a .1)))
+
+  -- a change to what passes, or not, as b says
+  pub count-changed-to : (f : A → A) (q t : A → Bool) (b : Bool) → ((x : A) → t (f x) ≡ b) → (l : List A) → count t (changed f q l) ≤ one b + count t (without q l)
+  count-changed-to f q t b g [] = omega arith
+  count-changed-to f q t b g (x ∷ l) =
+      split (q x) (λ u. rw u (le-of-eq (ap (λ (c : Bool). one c + count t l) (g x)))) (λ u. rw u (omega (arith, count-changed-to f q t b g l)))
+
+  -- ---- what every element has
+
+  pub all-without : (P : A → Type 0) (q : A → Bool) (l : List A) → All P l → All P (without q l)
+  all-without P q [] a = tt
+  all-without P q (x ∷ l) a = split (q x) (λ u. rw u (a .1)) (λ u. rw u (a .0, all-without P q l (a .1)))
+
+  pub all-changed : (f : A → A) (q : A → Bool) (P : A → Type 0) → ((x : A) → P x → P (f x)) → (l : List A) → All P l → All P (changed f q l)
+  all-changed f q P g [] a = tt
+  all-changed f q P g (x ∷ l) a = split (q x) (λ u. rw u (g x (a .0), a .1)) (λ u. rw u (a .0, all-changed f q P g l (a .1)))

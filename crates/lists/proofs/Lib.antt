@@ -8,3 +8,6 @@ pub mod Cells
 pub mod Arrays
 pub mod Onto
 pub mod Parts
+pub mod ByPlace
+pub mod Least
+pub mod Same

@@ -1,12 +1,12 @@
 -- Laws of tests, and of checks in their order.
-use Prim.Native.Nat.{ℕ}
-use mathlib.Core.Path.{_≡_, refl, sym, _∙_}
-use mathlib.Core.Bool.{Bool, true, false, _||_, _&&_}
-use mathlib.Core.List.{List, [], _∷_, _++_, map}
+use Prim.Native.Nat.{_<_, suc, zero, ℕ}
+use mathlib.Core.Bool.{_&&_, Bool, false, true, _||_}
+use mathlib.Core.List.{_++_, List, [], map, _∷_}
+use mathlib.Core.Path.{refl, sym, _∙_, _≡_}
 use native.Mathlib.Omega.{arith}
 use lib.Dec.{eqb}
-use borrow.Author.Tests.{eqb-true, eqb-false, eq-eqb, ne-eqb}
-use Rattle.lists.specs.Lists.{checks, All}
+use borrow.Author.Tests.{eq-eqb, eqb-false, eqb-true, ne-eqb}
+use Rattle.lists.specs.Lists.{All, checks}
 
 -- two answers that meet the same equation are equal: a function whose contract is an equation has no second answer
 pub one-value : {A : Type 0} (a b x : A) → a ≡ x → b ≡ x → a ≡ b
@@ -46,6 +46,11 @@ pub eqb-turn : (a b : ℕ) → eqb a b ≡ eqb b a
 eqb-turn a b =
     split (eqb a b) (λ p. rw (p, eq-eqb b a (sym (eqb-true a b p)))) (λ p. rw (p, ne-eqb b a (λ e. eqb-false a b p (sym e))))
 
+-- a number that is not 0 is above it
+pub positive : (n : ℕ) → (n ≡ 0 → ⊥) → 0 < n
+positive zero h = absurd (h refl)
+positive (suc n) h = omega arith
+
 -- ---- checks in their order
 
 module _ {A : Type 0} where
@@ -68,3 +73,18 @@ module _ {A B : Type 0} (f : A → B) where
   pub checks-said : (ts : List (Bool × A)) (a : A) → f (checks ts a) ≡ checks (map saidOf ts) (f a)
   checks-said [] a = refl
   checks-said (t ∷ ts) a = split (t .0) (λ p. rw p) (λ p. rw p (checks-said ts a))
+
+-- two lists of checks with the same tests, whose outcomes are related one by one, decide what is related
+module _ {A B : Type 0} (R : A → B → Type 0) where
+  abbrev pub Twin : Type 0
+  Twin = Bool × (A × B)
+
+  abbrev pub left : Twin → Bool × A
+  left t = (t .0, t .1 .0)
+
+  abbrev pub right : Twin → Bool × B
+  right t = (t .0, t .1 .1)
+
+  pub checks-twin : (ts : List Twin) (a : A) (b : B) → All (λ (t : Twin). R (t .1 .0) (t .1 .1)) ts → R a b → R (checks (map left ts) a) (checks (map right ts) b)
+  checks-twin [] a b f r = r
+  checks-twin (t ∷ ts) a b f r = split (t .0) (λ p. rw p (f .0)) (λ p. rw p (checks-twin ts a b (f .1) r))

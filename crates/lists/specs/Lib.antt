@@ -1,2 +1,4 @@
 pub mod Lists
 pub mod Arrays
+pub mod ByPlace
+pub mod Least

@@ -1,4 +1,4 @@
--- The response codes that the router, the event queue and the PSAM parts make, by TAPA's names, and the types that they know by name.
+-- The response codes that the router, the event queue, the data store and the PSAM parts make, by TAPA's names, and the types that they know by name.
 use Prim.Native.Nat.{ℕ}
 
 -- ---- codes
@@ -18,7 +18,7 @@ handlerError = 0xFFF3
 abbrev pub handlerBusy : ℕ
 handlerBusy = 0xFFF5
 
--- rule f
+-- rule f, and a store that is full
 abbrev pub insufficientResources : ℕ
 insufficientResources = 0xFFF6
 
@@ -38,6 +38,32 @@ noEvents = 0xFF72
 abbrev pub noMatchingEvents : ℕ
 noMatchingEvents = 0xFF73
 
+-- ---- codes of the data store (Tables 124 to 148)
+
+-- 'Invalid record pointer.'
+abbrev pub invalidRecordPointer : ℕ
+invalidRecordPointer = 0xFF50
+
+-- 'Invalid File ID'
+abbrev pub invalidFileId : ℕ
+invalidFileId = 0xFF51
+
+-- 'Record too large'
+abbrev pub recordTooLarge : ℕ
+recordTooLarge = 0xFF52
+
+-- 'Search key too large'
+abbrev pub searchKeyTooLarge : ℕ
+searchKeyTooLarge = 0xFF53
+
+-- 'File seek error. A selected record (key) could not be found.'
+abbrev pub fileSeekError : ℕ
+fileSeekError = 0xFF56
+
+-- 'Search key already existing'
+abbrev pub searchKeyExisting : ℕ
+searchKeyExisting = 0xFF59
+
 -- ---- types
 
 -- 'A response has type 'FF'.'
@@ -46,6 +72,34 @@ response = 0xFF
 
 abbrev pub iccCommand : ℕ
 iccCommand = 0x42
+
+-- Table 149: the data store's commands
+abbrev pub createFile : ℕ
+createFile = 0x90
+
+abbrev pub deleteFile : ℕ
+deleteFile = 0x91
+
+abbrev pub addRecord : ℕ
+addRecord = 0x92
+
+abbrev pub getRecord : ℕ
+getRecord = 0x93
+
+abbrev pub updateRecord : ℕ
+updateRecord = 0x94
+
+abbrev pub findRecord : ℕ
+findRecord = 0x95
+
+abbrev pub deleteRecord : ℕ
+deleteRecord = 0x96
+
+abbrev pub findAndDelete : ℕ
+findAndDelete = 0x97
+
+abbrev pub clearFile : ℕ
+clearFile = 0x98
 
 abbrev pub addEvent : ℕ
 addEvent = 0xC0

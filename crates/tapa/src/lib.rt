@@ -51,10 +51,40 @@ pub const NO_EVENTS: u16 = 0xFF72;
 
 pub const NO_MATCHING_EVENTS: u16 = 0xFF73;
 
+pub const INVALID_RECORD_POINTER: u16 = 0xFF50;
+
+pub const INVALID_FILE_ID: u16 = 0xFF51;
+
+pub const RECORD_TOO_LARGE: u16 = 0xFF52;
+
+pub const SEARCH_KEY_TOO_LARGE: u16 = 0xFF53;
+
+pub const FILE_SEEK_ERROR: u16 = 0xFF56;
+
+pub const SEARCH_KEY_EXISTING: u16 = 0xFF59;
+
 // Message types that a part of the router knows by name.
 pub const RESPONSE: u8 = 0xFF;
 
 pub const ICC_COMMAND: u8 = 0x42;
+
+pub const CREATE_FILE: u8 = 0x90;
+
+pub const DELETE_FILE: u8 = 0x91;
+
+pub const ADD_RECORD: u8 = 0x92;
+
+pub const GET_RECORD: u8 = 0x93;
+
+pub const UPDATE_RECORD: u8 = 0x94;
+
+pub const FIND_RECORD: u8 = 0x95;
+
+pub const DELETE_RECORD: u8 = 0x96;
+
+pub const FIND_AND_DELETE: u8 = 0x97;
+
+pub const CLEAR_FILE: u8 = 0x98;
 
 pub const ADD_EVENT: u8 = 0xC0;
 
