@@ -1,0 +1,5 @@
+pub mod Steps
+pub mod Deletes
+pub mod Adds
+pub mod Updates
+pub mod Leaks
