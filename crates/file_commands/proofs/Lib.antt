@@ -1,0 +1,10 @@
+pub mod Rows
+pub mod Creates
+pub mod Identifiers
+pub mod Making
+pub mod Leaving
+pub mod Sweeping
+pub mod Sweeps
+pub mod Steps
+pub mod Erases
+pub mod Leaks
