@@ -12,7 +12,9 @@ use Rattle.sending.proofs.Once as sending
 use Rattle.replies.proofs.Once as replies
 use Rattle.queue.proofs.Once as queue
 use Rattle.events.proofs.Once as events
+use Rattle.store.proofs.Once as store
 use Rattle.cutter.proofs.Once as cutter
+use Rattle.slots.proofs.Once.{one-slot-part}
 use Rattle.joiner.proofs.Once as joiner
 use Rattle.run.proofs.Once as run
 use Rattle.pages.proofs.Once as pages
@@ -41,6 +43,8 @@ one-result = record {
   reply = λ h part before x y a b. replies.one-reply h part before a b x y;
   queue = λ es p q. queue.one-queue p q es;
   handle = λ w h k a b. events.one-handle w a b h k;
+  slot-part = λ area s at n p q. one-slot-part area p q s at n;
+  store-handle = store.one-handle;
   part-to-cut = λ message x y p q. let s = cutter.one-part-to-cut message x y p q in (s .bytes, s .place);
   cut-next = λ part thread at before h k a b. cutter.one-cut-next part thread at before a b h k;
   next = λ c before s t a b. cutter.one-next c before a b s t;

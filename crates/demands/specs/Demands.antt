@@ -15,6 +15,8 @@ use Rattle.history.specs.Needed.{Needed}
 use Rattle.demands.specs.One.{OneResult}
 use Rattle.demands.specs.Desk.{Desk}
 use Rattle.demands.specs.Cheats.{Build, Meets, RefusesAll, OneOutcome, DoesNothing, Echoes, Printing, Prints, MadeUp}
+use Rattle.book.specs.declared.Book.{Book}
+use Rattle.demands.specs.Stored.{AsFiles, Exchange, Stored}
 use Rattle.demands.specs.Used.{Fresh, Used}
 
 -- demand 3 of one run of the code: 'the law shown of every state', what every history shows, its bound, and the marks
@@ -35,6 +37,8 @@ pub record Demands : Type 0 where
   pub does-nothing : (b : Build) → Meets b → DoesNothing b → ⊥
   pub echoes : (b : Build) → Meets b → Echoes b → ⊥
   pub made-up : (p : Printing) → Prints p → MadeUp p → ⊥
+  -- and of the data store: whatever messages it is sent, it answers and holds what a plain list of files does
+  pub store : (h : List Exchange) (b : Book) (area : List ℕ) → Stored h b area → AsFiles h b area
   -- 3. Every public start hands back a fresh router, and every run of the code from a fresh router keeps the promise; each premise on marks is needed
   pub blank-start : Fresh blank
   pub start-from : (set : SetUp) → Settled set → Fresh (startFrom set .router)

@@ -25,9 +25,12 @@ use Rattle.replies.specs.Replies.{Replies}
 use Rattle.queue.specs.declared.Event.{Event}
 use Rattle.queue.specs.Places.{Holds}
 use Rattle.events.specs.Events.{Result, Handling}
+use Rattle.store.specs.Store as store
+use Rattle.store.specs.declared.Handled.{Handled}
 use Rattle.cutter.specs.declared.Cutter.{Cutter}
 use Rattle.cutter.specs.declared.Begun.{Begun}
 use Rattle.cutter.specs.Cutting.{PartToCut, HandsOut, Steps, Begins, Firsts}
+use Rattle.slots.specs.Slots.{SlotPart}
 use Rattle.joiner.specs.declared.Joiner.{Joiner}
 use Rattle.joiner.specs.declared.Answer.{Answer}
 use Rattle.joiner.specs.Joining.{Joins, PartFor, Asks}
@@ -90,6 +93,10 @@ pub record OneResult : Type 0 where
   -- queue (fresh, with, taken), events
   pub queue : (events : List Event) → One (λ q. Holds q events)
   pub handle : (w : Result) → OneWith (λ h after. Handling w after h)
+  -- store: the answer and the next book, the area, the reply buffer
+  pub slot-part : (area : RefT (List ℕ)) (s at n : ℕ) → OnePart (λ (p : RefT (List ℕ)). SlotPart area p s at n)
+  pub store-handle : (w : store.Result) (area area′ before before′ : List ℕ) (h k : Handled) → store.Handling w area before h → store.Handling w area′ before′ k
+      → (h ≡ k) × (area ≡ area′) × (before ≡ before′)
   -- cutter
   pub part-to-cut : (message : RefT (List ℕ)) → OnePart (PartToCut message)
   pub cut-next : (part : List ℕ) (thread at : ℕ) (before : List ℕ) → OneWith (λ h after. HandsOut part thread at before after h)
