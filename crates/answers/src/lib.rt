@@ -1,4 +1,4 @@
-// Answers: what a part of the base answered, as a word and its numbers, and the text of it.
+// Answers: what a part of the build answered, as a word and its numbers, and the text of it.
 //
 // Every part has answers of its own. Here each becomes one `Came`, a word with its numbers, so that
 // one function writes them all. Each function that writes takes the place of the next byte and
@@ -75,7 +75,8 @@ pub fn of_writing(word: usize, writing: Writing) -> Came {
     }
 }
 
-pub fn of_event(answer: replies::Answer) -> Came {
+// A reply of the event queue or of the data store.
+pub fn of_reply(answer: replies::Answer) -> Came {
     match answer {
         replies::Answer::Reply(n) => Came::Number(REPLY, n),
         replies::Answer::Nothing => Came::Plain(NOTHING),

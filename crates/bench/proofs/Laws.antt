@@ -62,16 +62,16 @@ pub long-fits : (l line : List ℕ) (r : ℕ) → 64 ≤ length l → pen line r
 long-fits l line r h e = written l line longLine r (omega arith) e .fits
 
 -- what is written behind the number leaves it
-pub lined : (b next : Bench) (a k p : ℕ) (l x : List ℕ)
-    → Written (decimalOf (b .number)) l a → Lawful next → p ≤ length (putMid a k l x)
-    → Lines b (putMid a k l x) (record { place = p; next = next })
-lined b next a k p l x w lawful h = record { lawful = lawful; fits = h; numbered = rw (← w .counts) (take-put a k l x (w .fits) ∙ w .first) }
+pub lined : (b next : Bench) (a k p : ℕ) (l x area : List ℕ)
+    → Written (decimalOf (b .number)) l a → Lawful next area → p ≤ length (putMid a k l x)
+    → Lines b (putMid a k l x) area (record { place = p; next = next })
+lined b next a k p l x area w lawful h = record { lawful = lawful; fits = h; numbered = rw (← w .counts) (take-put a k l x (w .fits) ∙ w .first) }
 
 -- ---- turns
 
 -- a last turn
-pub stopped : (s : List ℕ) (b : Bench) (line : List ℕ) (t : Turn) → t .more ≡ false → t .length ≤ length line → Turns s b line t
-stopped s b line t m h = record {
+pub stopped : (s : List ℕ) (b : Bench) (line area : List ℕ) (t : Turn) → t .more ≡ false → t .length ≤ length line → Turns s b line area t
+stopped s b line area t m h = record {
   sound = λ e. differ (cc);
   fits = h;
   onwards = λ e. differ (cc);
@@ -81,12 +81,12 @@ stopped s b line t m h = record {
 }
 
 -- a turn that moves on to the end of its field
-pub moved : (s : List ℕ) (b : Bench) (from to : ℕ) (line : List ℕ) (t : Turn)
-    → Sound b → Placed s b from to → t .next .at ≡ to → t .next .number ≡ b .number + 1 → Lawful (t .next)
+pub moved : (s : List ℕ) (b : Bench) (from to : ℕ) (line before area : List ℕ) (t : Turn)
+    → Sound b before → Placed s b from to → t .next .at ≡ to → t .next .number ≡ b .number + 1 → Lawful (t .next) area
     → t .length ≤ length line → (1 ≤ t .length → Numbered (b .number) line)
-    → Turns s b line t
-moved s b from to line t sound at e n parts fits begins = record {
-  sound = λ m. record { parts = parts; counted = omega (arith, sound .counted, at .begins, at .ordered); near = omega (arith, at .near) };
+    → Turns s b line area t
+moved s b from to line before area t sound at e n lawful fits begins = record {
+  sound = λ m. record { lawful = lawful; counted = omega (arith, sound .counted, at .begins, at .ordered); near = omega (arith, at .near) };
   fits = fits;
   onwards = λ m. omega (arith, at .begins, at .ordered);
   inside = λ m. omega (arith, at .inside);

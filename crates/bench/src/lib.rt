@@ -1,13 +1,16 @@
-// The workbench: every part of the base, run on any bytes by hand.
+// The workbench: every part of the build, the data store too, run on any bytes by hand.
 //
 // An input is fields of a tag byte, two length bytes (high first) and contents. Each field asks
 // one part for one thing and has one line: the field's number, a word, and what came of it. The
-// parts' states go from field to field. docs/WORKBENCH.md has the table of tags.
+// parts' states go from field to field; the memory of the joiner and of the data store is lent.
+// docs/WORKBENCH.md has the table of tags.
 //
-// What is proved: no input stops the bench, the parts are called within their laws, every field
-// is counted from 1, the line of a whole field begins with its number, and every line lies in the
-// lent buffer. The parts promise what they answer; crate `answers` writes it.
+// What is proved: no input stops the bench, the parts are called within their laws (the data store's
+// is one of its book and its area), every field is counted from 1, the line of a whole field begins
+// with its number, and every line lies in the lent buffer. The parts promise what they answer; crate
+// `answers` writes it.
 use answers::Came;
+use book::Book;
 use cutter::Start;
 use fields::Read;
 use joiner::Joiner;
@@ -22,17 +25,18 @@ ghost use mathlib.Core.Path.{_≡_};
 ghost use Prim.Native.Nat.{_+_, _≤_};
 ghost use lib.ListN.{length, replicate};
 ghost use Rattle.router.specs.Router as routers;
-ghost use Rattle.bench.specs.Bench.{Lawful, Sound, Placed, Lines, Turns};
+ghost use Rattle.book.specs.Book as books;
+ghost use Rattle.bench.specs.Bench.{Lawful, Right, Sound, Ready, Placed, Lines, Turns};
 
 // The longest input, and the largest buffer that a field can have lent.
 const LONGEST: usize = 65536;
 
 const LARGEST: usize = 2048;
 
-// What the parts keep from field to field, and the place and number of the next field. There is a
-// router before a field starts one, so that its law always holds; `started` says whether a field
-// did. What is cut is told by its two places in the input, and `cut` is the cutter's place in it.
-pub struct Bench {
+// What the parts but the data store keep from field to field. There is a router before a field
+// starts one, so that its law always holds; `started` says whether a field did. What is cut is told
+// by its two places in the input, and `cut` is the cutter's place in it.
+struct Parts {
     queue: Queue,
     joiner: Joiner,
     router: Router,
@@ -43,17 +47,36 @@ pub struct Bench {
     to: usize,
     thread: u8,
     cut: usize,
+}
+
+// The parts, the data store's book, and the place and number of the next field. The book's law
+// speaks of the lent area too: so it stands apart, and only functions that have the area see it.
+pub struct Bench {
+    parts: Parts,
+    book: Book,
     at: usize,
     number: usize,
 }
 
-// What a part answered, and the bench after it.
+// What a part answered, and the parts after it.
 struct Asked {
     came: Came,
-    next: Bench,
+    next: Parts,
 }
 
-// The place after a field's text, and the bench after it.
+// The place after a field's text, and the parts after it.
+struct Told {
+    place: usize,
+    next: Parts,
+}
+
+// The same of a message to the data store, and the book after it.
+struct Stored {
+    place: usize,
+    next: Book,
+}
+
+// The same, and the bench after it.
 struct Said {
     place: usize,
     next: Bench,
@@ -147,7 +170,18 @@ fn is_row(tag: u8, contents: &[u8]) -> bool {
     byte_at(contents, 2) <= 1
 }
 
-// What is to be done with a field that is no row.
+// Whether a field is a message to the data store: n, and the message.
+fn is_for_store(tag: u8, contents: &[u8]) -> bool {
+    if tag != 0x1C {
+        return false;
+    }
+    if contents.len() < 2 {
+        return false;
+    }
+    word_at(contents, 0) as usize <= LARGEST
+}
+
+// What is to be done with a field that is neither.
 fn field_of(tag: u8, contents: &[u8], cutting: bool, started: bool) -> Field {
     let idle = match tag {
         0x14 => !cutting,
@@ -174,11 +208,11 @@ fn field_of(tag: u8, contents: &[u8], cutting: bool, started: bool) -> Field {
 
 // ---- fields without a buffer
 
-impl Bench {
+impl Parts {
     // Tag 13: a response to be cut, begun through the struct that holds it. No buffer is lent yet.
     fn on_begin(self, message: &[u8], from: usize, to: usize) -> Asked
-        requires { ⌜ Lawful self ⌝ }
-        ensures { λ r. ⌜ Lawful (r .next) ⌝ }
+        requires { ⌜ Right self ⌝ }
+        ensures { λ r. ⌜ Right (r .next) ⌝ }
     {
         let mut none = [0u8; 1];
         let first = cutter::first_command(message, &mut none);
@@ -197,8 +231,8 @@ impl Bench {
 
     // Tag 15: a command whose source is to be kept.
     fn on_keeping(self, message: &[u8]) -> Asked
-        requires { ⌜ Lawful self ⌝ }
-        ensures { λ r. ⌜ Lawful (r .next) ⌝ }
+        requires { ⌜ Right self ⌝ }
+        ensures { λ r. ⌜ Right (r .next) ⌝ }
     {
         let before = self.joiner;
         let kept = before.keep(message);
@@ -211,9 +245,9 @@ impl Bench {
     }
 
     // Tag 17: a row. It has no line.
-    fn on_row(self, address: u16, opened: bool) -> Bench
-        requires { ⌜ Lawful self ⌝ }
-        ensures { λ r. ⌜ Lawful r ⌝ }
+    fn on_row(self, address: u16, opened: bool) -> Parts
+        requires { ⌜ Right self ⌝ }
+        ensures { λ r. ⌜ Right r ⌝ }
     {
         let rows = table::with_row(self.rows, Row { address, opened });
         let mut next = self;
@@ -223,8 +257,8 @@ impl Bench {
 
     // Tag 18: a router on the gathered rows. A refused table leaves the router that was there.
     fn on_start(self) -> Asked
-        requires { ⌜ Lawful self ⌝ }
-        ensures { λ r. ⌜ Lawful (r .next) ⌝ }
+        requires { ⌜ Right self ⌝ }
+        ensures { λ r. ⌜ Right (r .next) ⌝ }
     {
         let begun = start::start_with(self.rows);
         let answer = begun.answer;
@@ -243,8 +277,8 @@ impl Bench {
 
     // Tag 1B: a handler that was replaced.
     fn on_replaced(self, address: u16) -> Asked
-        requires { ⌜ Lawful self ⌝ }
-        ensures { λ r. ⌜ Lawful (r .next) ⌝ }
+        requires { ⌜ Right self ⌝ }
+        ensures { λ r. ⌜ Right (r .next) ⌝ }
     {
         let before = self.router;
         let routed = before.replaced(address);
@@ -257,8 +291,8 @@ impl Bench {
     }
 
     fn ask_plain(self, tag: u8, contents: &[u8], from: usize, to: usize) -> Asked
-        requires { ⌜ Lawful self ⌝ }
-        ensures { λ r. ⌜ Lawful (r .next) ⌝ }
+        requires { ⌜ Right self ⌝ }
+        ensures { λ r. ⌜ Right (r .next) ⌝ }
     {
         match tag {
             0x13 => self.on_begin(contents, from, to),
@@ -268,12 +302,12 @@ impl Bench {
         }
     }
 
-    fn on_plain(self, line: &mut [u8], tag: u8, contents: &[u8], from: usize, to: usize) -> Said
-        requires { ⌜ Lawful self ⌝ }
-        ensures { λ r. ⌜ Lawful (r .next) ⌝ }
+    fn on_plain(self, line: &mut [u8], tag: u8, contents: &[u8], from: usize, to: usize) -> Told
+        requires { ⌜ Right self ⌝ }
+        ensures { λ r. ⌜ Right (r .next) ⌝ }
     {
         if tag == 0x10 {
-            return Said {
+            return Told {
                 place: answers::put_message(line, contents),
                 next: self,
             };
@@ -281,7 +315,7 @@ impl Bench {
         let asked = self.ask_plain(tag, contents, from, to);
         let came = asked.came;
         let next = asked.next;
-        Said {
+        Told {
             place: answers::put_came(line, 0, came),
             next,
         }
@@ -332,17 +366,17 @@ fn ask_router(router: Router, tag: u8, asked: &[u8], reply: &mut [u8]) -> Routed
     router.give_up(byte_at(asked, 0), reply)
 }
 
-impl Bench {
+impl Parts {
     // Tag 12: a message to the event queue.
     fn on_event(self, message: &[u8], buffer: &mut [u8]) -> Asked
-        requires { ⌜ Lawful self ⌝ }
-        ensures { λ r. ⌜ Lawful (r .next) ⌝ }
+        requires { ⌜ Right self ⌝ }
+        ensures { λ r. ⌜ Right (r .next) ⌝ }
     {
         let queue = self.queue;
         let handled = events::handle(queue, message, buffer);
         let after = handled.next;
         let answer = handled.answer;
-        let came = answers::of_event(answer);
+        let came = answers::of_reply(answer);
         let mut next = self;
         next.queue = after;
         Asked { came, next }
@@ -351,8 +385,8 @@ impl Bench {
     // Tag 14: the next command of what is cut. The first is had through the struct that holds the
     // slice, any other by its place: a struct that holds a slice cannot stay in the bench.
     fn on_command(self, message: &[u8], buffer: &mut [u8]) -> Asked
-        requires { ⌜ Lawful self ⌝ }
-        ensures { λ r. ⌜ Lawful (r .next) ⌝ }
+        requires { ⌜ Right self ⌝ }
+        ensures { λ r. ⌜ Right (r .next) ⌝ }
     {
         let mut next = self;
         if self.cut == 0 {
@@ -376,8 +410,8 @@ impl Bench {
 
     // What a field asks of a part that is not the router. `message` is what is cut.
     fn ask_lent(self, tag: u8, asked: &[u8], message: &[u8], buffer: &mut [u8]) -> Asked
-        requires { ⌜ Lawful self ⌝ }
-        ensures { λ r. ⌜ Lawful (r .next) ⌝ }
+        requires { ⌜ Right self ⌝ }
+        ensures { λ r. ⌜ Right (r .next) ⌝ }
     {
         match tag {
             0x11 => Asked {
@@ -397,9 +431,9 @@ impl Bench {
     }
 
     // Tag 16: a piece from the PSAM.
-    fn on_piece(self, line: &mut [u8], piece: &[u8], work: &mut [u8]) -> Said
-        requires { ⌜ Lawful self ⌝ }
-        ensures { λ r. ⌜ Lawful (r .next) ⌝ }
+    fn on_piece(self, line: &mut [u8], piece: &[u8], work: &mut [u8]) -> Told
+        requires { ⌜ Right self ⌝ }
+        ensures { λ r. ⌜ Right (r .next) ⌝ }
     {
         let before = self.joiner;
         let done = before.join(piece, work);
@@ -408,13 +442,13 @@ impl Bench {
         let mut next = self;
         next.joiner = after;
         let place = put_joined(line, answer, after.joined, work);
-        Said { place, next }
+        Told { place, next }
     }
 
     // Tags 19 and 1A: a message or a thread for the router; then the part to send.
-    fn on_router(self, line: &mut [u8], tag: u8, asked: &[u8], reply: &mut [u8]) -> Said
-        requires { ⌜ Lawful self ⌝ }
-        ensures { λ r. ⌜ Lawful (r .next) ⌝ }
+    fn on_router(self, line: &mut [u8], tag: u8, asked: &[u8], reply: &mut [u8]) -> Told
+        requires { ⌜ Right self ⌝ }
+        ensures { λ r. ⌜ Right (r .next) ⌝ }
     {
         let before = self.router;
         let routed = ask_router(before, tag, asked, reply);
@@ -423,7 +457,7 @@ impl Bench {
         let mut next = self;
         next.router = after;
         let place = put_sent(line, outcome, asked, reply);
-        Said { place, next }
+        Told { place, next }
     }
 
     fn with_buffer(
@@ -433,9 +467,9 @@ impl Bench {
         asked: &[u8],
         message: &[u8],
         buffer: &mut [u8],
-    ) -> Said
-        requires { ⌜ Lawful self ⌝ }
-        ensures { λ r. ⌜ Lawful (r .next) ⌝ }
+    ) -> Told
+        requires { ⌜ Right self ⌝ }
+        ensures { λ r. ⌜ Right (r .next) ⌝ }
     {
         if 0x19 <= tag {
             if tag <= 0x1A {
@@ -446,7 +480,7 @@ impl Bench {
         let came = said.came;
         let next = said.next;
         let a = answers::put_came(line, 0, came);
-        Said {
+        Told {
             place: answers::put_bytes(line, a, buffer),
             next,
         }
@@ -460,9 +494,9 @@ impl Bench {
         contents: &[u8],
         message: &[u8],
         work: &mut [u8],
-    ) -> Said
-        requires { ⌜ Lawful self ⌝ }
-        ensures { λ r. ⌜ Lawful (r .next) ⌝ }
+    ) -> Told
+        requires { ⌜ Right self ⌝ }
+        ensures { λ r. ⌜ Right (r .next) ⌝ }
     {
         let asked = between(contents, 2, contents.len());
         if tag == 0x16 {
@@ -473,6 +507,57 @@ impl Bench {
         let n = lent_size(contents, LARGEST);
         self.with_buffer(line, tag, asked, message, &mut lent[..n])
     }
+
+    // What is said of a field that is no message to the data store.
+    fn on_field(
+        self,
+        line: &mut [u8],
+        tag: u8,
+        input: &[u8],
+        from: usize,
+        to: usize,
+        work: &mut [u8],
+    ) -> Told
+        requires { ⌜ Right self ⌝ }
+        ensures { λ r. ⌜ Right (r .next) ⌝ }
+    {
+        let contents = between(input, from, to);
+        let message = between(input, self.from, self.to);
+        match field_of(tag, contents, self.cutting, self.started) {
+            Field::Plain => self.on_plain(line, tag, contents, from, to),
+            Field::Lent => self.on_lent(line, tag, contents, message, work),
+            Field::Word(word) => Told {
+                place: answers::put_came(line, 0, Came::Plain(word)),
+                next: self,
+            },
+        }
+    }
+}
+
+// ---- the data store
+
+// Tag 1C: a message to the data store, and a buffer for the reply.
+fn ask_store(b: Book, area: &mut [u8], line: &mut [u8], message: &[u8], reply: &mut [u8]) -> Stored
+    requires { ⌜ books.Lawful b (now area) ⌝ }
+    ensures { λ r. ⌜ books.Lawful (r .next) (now (area .exit)) ⌝ }
+{
+    let handled = store::handle(b, area, message, reply);
+    let answer = handled.answer;
+    let next = handled.next;
+    let a = answers::put_came(line, 0, answers::of_reply(answer));
+    let place = answers::put_bytes(line, a, reply);
+    Stored { place, next }
+}
+
+// The same, lending the first n bytes of a new buffer.
+fn on_store(b: Book, area: &mut [u8], line: &mut [u8], contents: &[u8]) -> Stored
+    requires { ⌜ books.Lawful b (now area) ⌝ }
+    ensures { λ r. ⌜ books.Lawful (r .next) (now (area .exit)) ⌝ }
+{
+    let mut lent = buffer();
+    let n = lent_size(contents, LARGEST);
+    let asked = between(contents, 2, contents.len());
+    ask_store(b, area, line, asked, &mut lent[..n])
 }
 
 // ---- one field after the other
@@ -500,19 +585,30 @@ impl Bench {
         from: usize,
         to: usize,
         work: &mut [u8],
+        area: &mut [u8],
     ) -> Said
-        requires { ⌜ Lawful self ⌝ }
-        ensures { λ r. ⌜ Lawful (r .next) ⌝ }
+        requires { ⌜ Lawful self (now area) ⌝ }
+        ensures { λ r. ⌜ Lawful (r .next) (now (area .exit)) ⌝ }
     {
         let contents = between(input, from, to);
-        let message = between(input, self.from, self.to);
-        match field_of(tag, contents, self.cutting, self.started) {
-            Field::Plain => self.on_plain(line, tag, contents, from, to),
-            Field::Lent => self.on_lent(line, tag, contents, message, work),
-            Field::Word(word) => Said {
-                place: answers::put_came(line, 0, Came::Plain(word)),
-                next: self,
-            },
+        if is_for_store(tag, contents) {
+            let stored = on_store(self.book, area, line, contents);
+            let after = stored.next;
+            let mut next = self;
+            next.book = after;
+            return Said {
+                place: stored.place,
+                next,
+            };
+        }
+        let before = self.parts;
+        let told = before.on_field(line, tag, input, from, to, work);
+        let after = told.next;
+        let mut next = self;
+        next.parts = after;
+        Said {
+            place: told.place,
+            next,
         }
     }
 
@@ -525,11 +621,12 @@ impl Bench {
         from: usize,
         to: usize,
         work: &mut [u8],
+        area: &mut [u8],
     ) -> Said
-        requires { ⌜ Lawful self ⌝ }
-        ensures { λ r. ⌜ Lawful (r .next) ⌝ }
+        requires { ⌜ Lawful self (now area) ⌝ }
+        ensures { λ r. ⌜ Lawful (r .next) (now (area .exit)) ⌝ }
     {
-        let said = self.on_field(line, tag, input, from, to, work);
+        let said = self.on_field(line, tag, input, from, to, work, area);
         let next = said.next;
         Said {
             place: text::put(line, said.place, b'\n'),
@@ -546,13 +643,14 @@ impl Bench {
         from: usize,
         to: usize,
         work: &mut [u8],
+        area: &mut [u8],
     ) -> Said
-        requires { ⌜ Sound self ⌝ }
+        requires { ⌜ Sound self (now area) ⌝ }
         requires { ⌜ 64 ≤ length (now line) ⌝ }
-        ensures { λ r. ⌜ Lines self (now (line .exit)) r ⌝ }
+        ensures { λ r. ⌜ Lines self (now (line .exit)) (now (area .exit)) r ⌝ }
     {
         let a = text::put_decimal(line, 0, self.number);
-        let said = self.rest_of(&mut line[a..], tag, input, from, to, work);
+        let said = self.rest_of(&mut line[a..], tag, input, from, to, work, area);
         let next = said.next;
         Said {
             place: sum_within(a, said.place, line.len()),
@@ -565,20 +663,24 @@ impl Bench {
         self,
         input: &[u8],
         work: &mut [u8],
+        area: &mut [u8],
         line: &mut [u8],
         tag: u8,
         from: usize,
         to: usize,
     ) -> Turn
-        requires { ⌜ Sound self ⌝ }
+        requires { ⌜ Sound self (now area) ⌝ }
         requires { ⌜ Placed (now input) self from to ⌝ }
         requires { ⌜ 64 ≤ length (now line) ⌝ }
-        ensures { λ r. ⌜ Turns (now (input .entry)) self (now (line .exit)) r ⌝ }
+        ensures { λ r. ⌜ Turns (now (input .entry)) self (now (line .exit)) (now (area .exit)) r ⌝ }
     {
         let number = self.number + 1;
         let contents = between(input, from, to);
         if is_row(tag, contents) {
-            let mut gathered = self.on_row(word_at(contents, 0), byte_at(contents, 2) == 1);
+            let before = self.parts;
+            let after = before.on_row(word_at(contents, 0), byte_at(contents, 2) == 1);
+            let mut gathered = self;
+            gathered.parts = after;
             gathered.at = to;
             gathered.number = number;
             return Turn {
@@ -587,7 +689,7 @@ impl Bench {
                 next: gathered,
             };
         }
-        let said = self.line_of(line, tag, input, from, to, work);
+        let said = self.line_of(line, tag, input, from, to, work, area);
         let mut next = said.next;
         next.at = to;
         next.number = number;
@@ -599,11 +701,11 @@ impl Bench {
     }
 
     // The field at the place, and its line at the start of the buffer. `work` is the joiner's
-    // buffer: the same one for every field of an input.
-    pub fn turn(self, input: &[u8], work: &mut [u8], line: &mut [u8]) -> Turn
-        requires { ⌜ Sound self ⌝ }
+    // buffer and `area` the data store's: the same two for every field of an input.
+    pub fn turn(self, input: &[u8], work: &mut [u8], area: &mut [u8], line: &mut [u8]) -> Turn
+        requires { ⌜ Sound self (now area) ⌝ }
         requires { ⌜ 64 ≤ length (now line) ⌝ }
-        ensures { λ r. ⌜ Turns (now (input .entry)) self (now (line .exit)) r ⌝ }
+        ensures { λ r. ⌜ Turns (now (input .entry)) self (now (line .exit)) (now (area .exit)) r ⌝ }
     {
         if LONGEST < input.len() {
             return Turn {
@@ -620,7 +722,7 @@ impl Bench {
             },
             // The end of the input cuts this field: it is none of the table's.
             Read::Cut(_) => {
-                let said = self.line_of(line, 0x00, input, 0, 0, work);
+                let said = self.line_of(line, 0x00, input, 0, 0, work, area);
                 let next = said.next;
                 Turn {
                     length: said.place,
@@ -631,6 +733,7 @@ impl Bench {
             Read::Field { tag, start, long } => self.on_whole(
                 input,
                 work,
+                area,
                 line,
                 tag,
                 start,
@@ -642,14 +745,15 @@ impl Bench {
 
 // A bench before the first field.
 pub fn fresh() -> Bench
-    ensures { λ r. ⌜ (Sound r) × (r .number ≡ 1) ⌝ }
+    ensures { λ r. ⌜ (Ready r) × (r .number ≡ 1) ⌝ }
 {
     let queue = queue::fresh();
     let joiner = joiner::fresh();
     let rows = table::no_rows();
     let begun = start::start_with(rows);
     let router = begun.router;
-    Bench {
+    let book = book::fresh();
+    let parts = Parts {
         queue,
         joiner,
         router,
@@ -660,6 +764,10 @@ pub fn fresh() -> Bench
         to: 0,
         thread: 0,
         cut: 0,
+    };
+    Bench {
+        parts,
+        book,
         at: 0,
         number: 1,
     }

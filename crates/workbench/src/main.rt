@@ -1,4 +1,4 @@
-// Runs any part of the base on any bytes: fields in, one line a field out (docs/WORKBENCH.md).
+// Runs any part of the build on any bytes: fields in, one line a field out (docs/WORKBENCH.md).
 //
 // Usage: ./kiosk workbench [FILE..]
 //
@@ -9,9 +9,10 @@
 fn show(program: &[u8], input: &[u8]) -> bool {
     let mut line = [0u8; 8192];
     let mut work = bench::buffer();
+    let mut area = [0u8; 98048];
     let mut bench = bench::fresh();
     loop {
-        let turn = bench.turn(input, &mut work, &mut line);
+        let turn = bench.turn(input, &mut work, &mut area, &mut line);
         let used = turn.length;
         if !inputs::write(program, &line[..used]) {
             return false;

@@ -4,6 +4,9 @@ use Rattle.table.specs.declared.Rows.{Rows}
 use Rattle.table.specs.Table.{Held}
 use Rattle.table.proofs.Read.{none-held}
 use Rattle.router.specs.Router as router
+use Rattle.book.specs.Book as book
+use Rattle.book.specs.declared.Book.{Book}
+use Rattle.book.proofs.Tables.{fresh-law}
 use Rattle.start.specs.declared.Started.{Started}
 use Rattle.start.proofs.Starts.{start-law}
 use borrow.Author.Needs.{needs}
@@ -15,12 +18,15 @@ start-with-requires c κs = subst (λ (t : Rows). Held t) (sym (c .no-rows .ensu
 
 returns : tie.Need-returns
 returns c =
-    let held : Held (c .before .before .no-rows .result) = subst (λ (t : Rows). Held t) (sym (c .before .before .no-rows .ensures)) none-held in (
-      record {
-        parts = record {
-          queue = search needs;
-          router = subst (λ (s : Started). router.Lawful (s .router)) (sym (c .before .start-with .ensures)) (start-law _ held);
-          rows = held;
+    let held : Held (c .before .before .before .no-rows .result) = subst (λ (t : Rows). Held t) (sym (c .before .before .before .no-rows .ensures)) none-held in (
+      λ area long. record {
+        lawful = record {
+          parts = record {
+            queue = search needs;
+            router = subst (λ (s : Started). router.Lawful (s .router)) (sym (c .before .before .start-with .ensures)) (start-law _ held);
+            rows = held;
+          };
+          store = subst (λ (b : Book). book.Lawful b area) (sym (c .fresh3 .ensures)) (fresh-law area long);
         };
         counted = search needs;
         near = search needs;
@@ -29,4 +35,4 @@ returns c =
     )
 
 pub fresh-spec : {M : Type 1} → statement M
-fresh-spec = tie.close (tie.spec (λ c κs. search needs) (λ c κs. search needs) (λ c κs. search needs) start-with-requires returns)
+fresh-spec = tie.close (tie.spec (λ c κs. search needs) (λ c κs. search needs) (λ c κs. search needs) start-with-requires (λ c κs. search needs) returns)

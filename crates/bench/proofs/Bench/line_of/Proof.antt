@@ -8,16 +8,16 @@ use Rattle.bench.proofs.Bench.line_of.Statement.{statement}
 use Rattle.bench.proofs.Bench.line_of.Tie as tie
 
 sub-rest-of : tie.Need-sub-rest-of
-sub-rest-of c = number-written _ _ _ _ (c .before .before .before .before .before .before .before .pre .1) (omega (arith, c .before .before .before .before .before .before .before .pre .0 .counted, c .before .before .before .before .before .before .before .pre .0 .near)) (c .before .before .put-decimal .ensures) .fits
+sub-rest-of c = number-written _ _ _ _ (c .before .before .before .before .before .before .before .before .pre .1) (omega (arith, c .before .before .before .before .before .before .before .before .pre .0 .counted, c .before .before .before .before .before .before .before .before .pre .0 .near)) (c .before .before .put-decimal .ensures) .fits
 
 part-rest-of-start : tie.Need-part-rest-of-start
-part-rest-of-start c = number-written _ _ _ _ (c .before .before .before .before .before .before .before .pre .1) (omega (arith, c .before .before .before .before .before .before .before .pre .0 .counted, c .before .before .before .before .before .before .before .pre .0 .near)) (c .before .before .put-decimal .ensures) .fits
+part-rest-of-start c = number-written _ _ _ _ (c .before .before .before .before .before .before .before .before .pre .1) (omega (arith, c .before .before .before .before .before .before .before .before .pre .0 .counted, c .before .before .before .before .before .before .before .before .pre .0 .near)) (c .before .before .put-decimal .ensures) .fits
 
 returns : tie.Need-returns
 returns c =
-    lined (c .before .before .before .before .before .before .before .before .before .before .before .before .before .before .before .before .args .self) _ (c .before .before .before .before .before .before .before .before .before .before .before .put-decimal .result) (length (c .before .before .before .before .before .before .before .before .before .before .before .put-decimal .last .0) - c .before .before .before .before .before .before .before .before .before .before .before .put-decimal .result) _ (c .before .before .before .before .before .before .before .before .before .before .before .put-decimal .last .0) (c .before .before .before .before .before .before .rest-of .last .1 .0)
-    (number-written _ _ _ _ (c .before .before .before .before .before .before .before .before .before .before .before .before .before .before .before .before .pre .1) (omega (arith, c .before .before .before .before .before .before .before .before .before .before .before .before .before .before .before .before .pre .0 .counted, c .before .before .before .before .before .before .before .before .before .before .before .before .before .before .before .before .pre .0 .near)) (c .before .before .before .before .before .before .before .before .before .before .before .put-decimal .ensures))
-    (c .before .before .before .before .before .before .rest-of .ensures) (c .sum-within .ensures)
+    lined (c .before .before .before .before .before .before .before .before .before .before .before .before .before .before .before .before .before .before .before .before .args .self) _ (c .before .before .before .before .before .before .before .before .before .before .before .before .before .before .put-decimal .result) (length (c .before .before .before .before .before .before .before .before .before .before .before .before .before .before .put-decimal .last .0) - c .before .before .before .before .before .before .before .before .before .before .before .before .before .before .put-decimal .result) _ (c .before .before .before .before .before .before .before .before .before .before .before .before .before .before .put-decimal .last .0) (c .before .before .before .before .before .before .before .before .rest-of .last .1 .0) _
+    (number-written _ _ _ _ (c .before .before .before .before .before .before .before .before .before .before .before .before .before .before .before .before .before .before .before .before .pre .1) (omega (arith, c .before .before .before .before .before .before .before .before .before .before .before .before .before .before .before .before .before .before .before .before .pre .0 .counted, c .before .before .before .before .before .before .before .before .before .before .before .before .before .before .before .before .before .before .before .before .pre .0 .near)) (c .before .before .before .before .before .before .before .before .before .before .before .before .before .before .put-decimal .ensures))
+    (c .before .before .before .before .before .before .before .before .rest-of .ensures) (c .sum-within .ensures)
 
 pub line-of-spec : {M : Type 1} → statement M
 line-of-spec =
@@ -29,6 +29,7 @@ line-of-spec =
     (λ c. search needs)
     (λ c κs. search needs)
     (λ c κs. search needs)
+    (λ c. search needs)
     (λ c. search needs)
     (λ c. search needs)
     returns)

@@ -1,9 +1,9 @@
--- `bench::Bench::on_lent` meets its contract: the lent part has as many bytes as the field asks. Assumes nothing.
+-- `bench::Parts::on_lent` meets its contract: the lent part has as many bytes as the field asks. Assumes nothing.
 use mathlib.Core.Path.{sym}
 use lib.Seq.{length-take-le}
 use borrow.Author.Needs.{needs}
-use Rattle.bench.proofs.Bench.on_lent.Statement.{statement}
-use Rattle.bench.proofs.Bench.on_lent.Tie as tie
+use Rattle.bench.proofs.Parts.on_lent.Statement.{statement}
+use Rattle.bench.proofs.Parts.on_lent.Tie as tie
 
 slice-aggregate-on-piece : tie.Need-slice-aggregate-on-piece
 slice-aggregate-on-piece c = sym (length-take-le _ _ (search needs))

@@ -1,4 +1,4 @@
--- `bench::Bench::on_start` meets its contract: a router over an accepted table is lawful. Assumes nothing.
+-- `bench::Parts::on_start` meets its contract: a router over an accepted table is lawful. Assumes nothing.
 use mathlib.Core.Path.{subst, sym}
 use Rattle.table.specs.declared.Rows.{Rows}
 use Rattle.table.specs.Table.{Held}
@@ -7,8 +7,8 @@ use Rattle.start.specs.declared.Started.{Started}
 use Rattle.router.specs.Router as router
 use Rattle.start.proofs.Starts.{start-law}
 use borrow.Author.Needs.{needs}
-use Rattle.bench.proofs.Bench.on_start.Statement.{statement}
-use Rattle.bench.proofs.Bench.on_start.Tie as tie
+use Rattle.bench.proofs.Parts.on_start.Statement.{statement}
+use Rattle.bench.proofs.Parts.on_start.Tie as tie
 
 returns : tie.Need-returns
 returns c = record {
