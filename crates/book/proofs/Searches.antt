@@ -1,6 +1,6 @@
 -- A search over all entries is a search in one file's records.
 use Prim.Native.Nat.{_+_, _<_, suc, zero, ℕ}
-use mathlib.Core.Bool.{Bool, cond, false}
+use mathlib.Core.Bool.{Bool, cond, false, true}
 use mathlib.Core.List.{List, [], map, _∷_}
 use mathlib.Core.Option.{none}
 use mathlib.Core.Path.{ap, refl, sym, _∙_, _≡_}
@@ -13,9 +13,9 @@ use Rattle.book.specs.Book.{inFile, meant, noEntry, pointerAt}
 use Rattle.book.specs.declared.Entry.{Entry}
 use Rattle.files.specs.Files.{Record, newest, pointerOf, seek, spot}
 use Rattle.lists.proofs.ByPlace.{last-inside, place-inside}
-use Rattle.lists.proofs.Tests.{differ, split}
+use Rattle.lists.proofs.Tests.{clash, differ, split}
 use Rattle.lists.specs.ByPlace.{isAt, last, later, place, turnedOnto}
-use Rattle.lists.specs.Lists.{keep, someOf, without}
+use Rattle.lists.specs.Lists.{All, count, keep, someOf, without}
 use Rattle.lists.specs.declared.Found.{Found}
 use Rattle.lists.specs.declared.Found.the-variants.{At, Nothing}
 
@@ -32,6 +32,13 @@ module _ (f : ℕ) (R : Entry → Record) where
     some-place n [] = refl
     some-place n (x ∷ l) =
         split (inFile f x) (λ t. split (q′ (R x)) (λ u. rw (t, u)) (λ u. rw (t, u) (some-place (suc n) l))) (λ t. rw t (some-place (suc n) l))
+
+    pub both-parts : (x : Entry) → both x ≡ true → (x .file ≡ f) × (q′ (R x) ≡ true)
+    both-parts x e = split (inFile f x) (λ t. (eqb-true (x .file) f t, rw t at e)) (λ t. clash false (rw t at e) refl)
+
+    pub count-both : (l : List Entry) → count q′ (recs l) ≡ count both l
+    count-both [] = refl
+    count-both (x ∷ l) = split (inFile f x) (λ t. rw t (omega (arith, count-both l))) (λ t. rw t (omega (arith, count-both l)))
 
     pub drop-keep : (l : List Entry) → recs (without both l) ≡ without q′ (recs l)
     drop-keep [] = refl
@@ -80,6 +87,20 @@ module _ (f : ℕ) (R : Entry → Record) where
     pub seek-hit : (l : List Entry) (k : ℕ) → place both 0 l ≡ At k
         → seek q′ [] (recs l) ≡ spot (recs (turnedOnto [] (take k l))) (R (getD l k noEntry)) (recs (drop (suc k) l))
     seek-hit l k e = seek-from 0 k l [] (e ∙ ap At (let m : k ≡ 0 + k = omega arith in m))
+
+  -- ---- what every record of the file has
+  module _ (P : Record → Type 0) where
+    pub all-recs : (Q : Entry → Type 0) → ((x : Entry) → x .file ≡ f → Q x → P (R x)) → (l : List Entry) → All Q l → All P (recs l)
+    all-recs Q g [] a = tt
+    all-recs Q g (x ∷ l) a =
+        let ih = all-recs Q g l (a .1) in
+        split (inFile f x) (λ t. rw t (g x (eqb-true (x .file) f t) (a .0), ih)) (λ t. rw t ih)
+
+    pub recs-head : (x : Entry) (l : List Entry) → All P (recs (x ∷ l)) → inFile f x ≡ true → P (R x)
+    recs-head x l a t = let b : All P (R x ∷ recs l) = rw t at a in b .0
+
+    pub recs-tail : (x : Entry) (l : List Entry) → All P (recs (x ∷ l)) → All P (recs l)
+    recs-tail x l a = split (inFile f x) (λ t. let b : All P (R x ∷ recs l) = rw t at a in b .1) (λ t. rw t at a)
 
   -- ---- the next one
   drop-head : (n : ℕ) (l m : List Entry) (x : Entry) → drop n l ≡ x ∷ m → (getD l n noEntry ≡ x) × (drop (suc n) l ≡ m)

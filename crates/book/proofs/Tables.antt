@@ -7,15 +7,17 @@ use mathlib.Core.Path.{ap, refl, sym, _∙_, _≡_}
 use native.Mathlib.Nat.{mod-eq-of-lt}
 use native.Mathlib.Numerals.{add-one}
 use native.Mathlib.Omega.{arith}
+use lib.Dec.{ltb}
 use lib.ListN.{List·getD-eq-default, drop, drop-of-length-le, getD, length, length-set, replicate, set}
 use lib.Seq.{drop-cons}
+use borrow.Author.Tests.{ltb-false, ltb-true}
 use Rattle.book.proofs.Laws.{lawful-of}
 use Rattle.book.specs.Book.{Lawful, Limits, bookOf, createdAt, freeKind, isMade, kind, kindOf, noKind, noKinds, withKind, withKinds}
 use Rattle.book.specs.declared.Book.{Book}
 use Rattle.book.specs.declared.Created.{Created}
 use Rattle.book.specs.declared.Kind.{Kind}
 use Rattle.lists.proofs.ByPlace.{set-past}
-use Rattle.lists.proofs.Tests.{differ, split}
+use Rattle.lists.proofs.Tests.{clash, differ, split}
 use Rattle.lists.specs.Lists.{All, count}
 use Rattle.lists.specs.declared.Found.the-variants.{At}
 
@@ -27,6 +29,18 @@ kind-none ks (suc n) h z =
 pub kind-some : (ks : List Kind) (f r : ℕ) → r ≡ f → (f ≡ 0 → ⊥) → getD ks (r - 1) noKind ≡ kindOf ks f
 kind-some ks zero r e h = absurd (h refl)
 kind-some ks (suc n) r e h = let k : r - 1 ≡ n = omega arith in rw k
+
+-- the row of a file that is made
+pub made-row : (ks : List Kind) (f : ℕ) → kindOf ks f .made ≡ true → (1 ≤ f) × (getD ks (f - 1) noKind ≡ kindOf ks f)
+made-row ks zero t = clash false t refl
+made-row ks (suc n) t = let m : suc n - 1 ≡ n = omega arith in (omega arith, rw m)
+
+-- .. is one of the 16
+pub made-few : (ks : List Kind) (f : ℕ) → length ks ≡ 16 → kindOf ks f .made ≡ true → f ≤ 16
+made-few ks zero h t = omega arith
+made-few ks (suc n) h t =
+    split (ltb n 16) (λ u. omega (arith, ltb-true n 16 u))
+    (λ u. clash (getD ks n noKind .made) t (ap (λ (k : Kind). k .made) (List·getD-eq-default ks noKind {n = n} (omega (arith, ltb-false n 16 u)))))
 
 -- ---- the search
 pub record Free (ks : List Kind) (i : ℕ) : Type 0 where

@@ -3,17 +3,18 @@ use Prim.Native.Nat.{_+_, _<_, suc, zero, ℕ, _≤_}
 use mathlib.Core.Bool.{cond, false, true}
 use mathlib.Core.List.{List, [], _∷_}
 use mathlib.Core.Option.{Option, none, some}
-use mathlib.Core.Path.{ap, refl, _∙_, _≡_}
+use mathlib.Core.Path.{ap, refl, subst, _∙_, _≡_}
 use native.Mathlib.Omega.{arith}
 use lib.Dec.{eqb}
 use lib.ListN.{getD, length}
-use borrow.Author.Tests.{eq-eqb, eqb-false, ne-eqb}
+use borrow.Author.Tests.{eq-eqb, eqb-false, eqb-true, ne-eqb}
 use Rattle.book.specs.Book.{fileOf, filesFrom, inFile, inSlot, kindOf, noKind, recIn, recOf, recordsOf}
 use Rattle.book.specs.declared.Entry.{Entry}
 use Rattle.book.specs.declared.Kind.{Kind}
 use Rattle.files.specs.Files.{File, Record, change, look}
-use Rattle.lists.proofs.Tests.{split}
-use Rattle.lists.specs.Lists.{count}
+use Rattle.files.specs.Sound.{called}
+use Rattle.lists.proofs.Tests.{differ, split}
+use Rattle.lists.specs.Lists.{All, count}
 use Rattle.slots.proofs.Slots.{window-other}
 use Rattle.slots.specs.Slots.{put}
 
@@ -60,6 +61,45 @@ module _ (l : List Entry) (area : List ℕ) where
 
   pub look-none : (f : ℕ) (ks : List Kind) → kindOf ks f .made ≡ false → look f (filesFrom 1 ks l area) ≡ none
   look-none f ks t = look-view f ks ∙ rw t
+
+-- ---- what every file has
+all-look : (P : File → Type 0) (f : ℕ) (s : List File) (g : File) → look f s ≡ some g → All P s → P g
+all-look P f [] g e a = differ (cc)
+all-look P f (h ∷ s) g e a =
+    split (called f h) (λ t. let k : some h ≡ some g = rw t at e in let m : h ≡ g = cc in subst P m (a .0)) (λ t. all-look P f s g (rw t at e) (a .1))
+
+module _ (l : List Entry) (area : List ℕ) where
+  all-from : (P : File → Type 0) (n : ℕ) (ks : List Kind)
+      → ((j m : ℕ) → m ≡ n + j → getD ks j noKind .made ≡ true → P (fileOf m (getD ks j noKind) l area)) → All P (filesFrom n ks l area)
+  all-from P n [] g = tt
+  all-from P n (k ∷ ks) g =
+      let ih = all-from P (suc n) ks (λ j m e. g (suc j) m (omega arith)) in
+      split (k .made) (λ t. rw t (g 0 n (omega arith) t, ih)) (λ t. rw t ih)
+
+  -- what each file that is made has, every file of the view has, and the other way
+  pub all-view : (P : File → Type 0) (ks : List Kind) → ((f : ℕ) → kindOf ks f .made ≡ true → P (fileOf f (kindOf ks f) l area))
+      → All P (filesFrom 1 ks l area)
+  all-view P ks g =
+      all-from P 1 ks (λ j m e t. let y : suc j ≡ m = omega arith in subst (λ (f : ℕ). P (fileOf f (getD ks j noKind) l area)) y (g (suc j) t))
+
+  pub view-all : (P : File → Type 0) (ks : List Kind) → All P (filesFrom 1 ks l area)
+      → (f : ℕ) → kindOf ks f .made ≡ true → P (fileOf f (kindOf ks f) l area)
+  view-all P ks a f t = all-look P f (filesFrom 1 ks l area) (fileOf f (kindOf ks f) l area) (look-made l area f ks t) a
+
+  -- ---- identifiers rise, so none stands twice
+  none-below : (f n : ℕ) (ks : List Kind) → f < n → count (called f) (filesFrom n ks l area) ≡ 0
+  none-below f n [] h = refl
+  none-below f n (k ∷ ks) h =
+      let ih = none-below f (suc n) ks (omega arith) in
+      split (k .made) (λ t. rw (t, ne-eqb n f (λ e. omega arith)) (omega arith)) (λ t. rw t ih)
+
+  pub ids-once : (f n : ℕ) (ks : List Kind) → count (called f) (filesFrom n ks l area) ≤ 1
+  ids-once f n [] = omega arith
+  ids-once f n (k ∷ ks) =
+      let ih = ids-once f (suc n) ks in
+      split (k .made)
+      (λ t. split (eqb n f) (λ u. rw (t, u) (omega (arith, none-below f (suc n) ks (omega (arith, eqb-true n f u))))) (λ u. rw (t, u) (omega arith)))
+      (λ t. rw t ih)
 
 -- ---- slots that do not touch
 module _ (area xs : List ℕ) (s : ℕ) (long : length area ≡ 98048) (full : length xs ≡ 383) (small : s ≤ 255) where

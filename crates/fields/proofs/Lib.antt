@@ -1,3 +1,4 @@
 pub mod Unfold
 pub mod Left
 pub mod Contents
+pub mod Bytes

@@ -49,6 +49,13 @@ module _ {A : Type 0} where
   zero-none q [] e = refl
   zero-none q (x ∷ l) e = let z = count-zero q x l e in rw (z .0) (zero-none q l (z .1))
 
+  -- at most one passes: an element in front, and what then stands behind it
+  pub once-more : (q : A → Bool) (x : A) (l : List A) → (q x ≡ true → someOf q l ≡ false) → count q l ≤ 1 → count q (x ∷ l) ≤ 1
+  once-more q x l f c = split (q x) (λ e. rw e (omega (arith, none-zero q l (f e)))) (λ e. rw e (omega arith))
+
+  pub once-none : (q : A → Bool) (x : A) (l : List A) → count q (x ∷ l) ≤ 1 → q x ≡ true → someOf q l ≡ false
+  once-none q x l c e = let d : 1 + count q l ≤ 1 = rw e at c in zero-none q l (omega arith)
+
   -- ---- what is kept
 
   pub keep-all : (q : A → Bool) (l : List A) → count q l ≡ 0 → keep (λ x. not (q x)) l ≡ l

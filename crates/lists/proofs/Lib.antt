@@ -6,7 +6,10 @@ pub mod Members
 pub mod Kept
 pub mod Cells
 pub mod Arrays
+pub mod Bytes
 pub mod Onto
+pub mod Over
+pub mod Joined
 pub mod Parts
 pub mod ByPlace
 pub mod Least

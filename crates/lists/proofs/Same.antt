@@ -8,12 +8,12 @@ use borrow.Author.Tests.{eq-eqb, eqb-true}
 use Rattle.lists.proofs.Tests.{clash, split}
 use Rattle.lists.specs.Least.{same}
 
-same-yes : (xs ys : List ℕ) → xs ≡ ys → same xs ys ≡ true
-same-yes xs ys e = rw e (self ys)
-  where
-    self : (ys : List ℕ) → same ys ys ≡ true
-    self [] = refl
-    self (y ∷ ys) = rw (eq-eqb y y refl, self ys)
+pub same-self : (xs : List ℕ) → same xs xs ≡ true
+same-self [] = refl
+same-self (x ∷ xs) = rw (eq-eqb x x refl, same-self xs)
+
+pub same-yes : (xs ys : List ℕ) → xs ≡ ys → same xs ys ≡ true
+same-yes xs ys e = rw e (same-self ys)
 
 pub same-eq : (xs ys : List ℕ) → same xs ys ≡ true → xs ≡ ys
 same-eq [] [] e = refl
@@ -27,3 +27,6 @@ pub same-is : (r : Bool) (xs ys : List ℕ) → (r ≡ true → xs ≡ ys) × (x
 same-is r xs ys e =
     split r (λ t. t ∙ sym (same-yes xs ys (e .0 t)))
     (λ t. split (same xs ys) (λ u. clash r (e .1 (same-eq xs ys u)) t) (λ u. t ∙ sym u))
+
+pub same-turn : (xs ys : List ℕ) → same xs ys ≡ same ys xs
+same-turn xs ys = same-is (same xs ys) ys xs ((λ t. sym (same-eq xs ys t)), (λ e. same-yes xs ys (sym e)))

@@ -60,6 +60,11 @@ module _ {A : Type 0} where
   checks-are P [] a f g = g tt
   checks-are P (t ∷ ts) a f g = split (t .0) (λ p. rw p (f .0)) (λ p. rw p (checks-are P ts a (f .1) (λ r. g (p, r))))
 
+  -- where all tests failed, the last outcome stands
+  pub checks-last : (ts : List (Bool × A)) (a : A) → All (λ (t : Bool × A). t .0 ≡ false) ts → checks ts a ≡ a
+  checks-last [] a f = refl
+  checks-last (t ∷ ts) a f = rw (f .0) (checks-last ts a (f .1))
+
   -- a test that fails can be left out, wherever it stands
   pub checks-skip : (ts us : List (Bool × A)) (b : Bool) (n a : A) → b ≡ false → checks (ts ++ (b, n) ∷ us) a ≡ checks (ts ++ us) a
   checks-skip [] us b n a p = rw p

@@ -6,7 +6,7 @@ use mathlib.Core.Logic.{_⊎_}
 use mathlib.Core.Option.{Option, none, some}
 use mathlib.Core.Path.{_≡_}
 use lib.Dec.{eqb}
-use lib.ListN.{length, drop, getD}
+use lib.ListN.{length, take, drop, getD}
 use denote.Ref.{RefT}
 use Rattle.lists.specs.declared.Found.{Found}
 use Rattle.lists.specs.declared.Found.the-variants.{At, Nothing}
@@ -82,6 +82,15 @@ module _ {A : Type 0} where
 -- what a buffer holds once some bytes were written at its start: the bytes after them stay
 abbrev pub onto : List ℕ → List ℕ → List ℕ
 onto written buffer = written ++ drop (length written) buffer
+
+-- what a buffer holds once some bytes were written at a place: those before and after them stay
+abbrev pub over : List ℕ → ℕ → List ℕ → List ℕ
+over bytes at xs = take at bytes ++ (xs ++ drop (at + length xs) bytes)
+
+-- pieces one after the other
+abbrev pub joined : List (List ℕ) → List ℕ
+joined [] = []
+joined (l ∷ ls) = l ++ joined ls
 
 -- every element is a byte, as in each lent slice
 abbrev pub Bytes : List ℕ → Type 0

@@ -1,11 +1,13 @@
 -- A page that is being filled: it holds whole lines, the first ones that were left. Assumes nothing.
-use Prim.Native.Nat.{ℕ, zero, suc, _+_, _-_, _≤_, _<_}
+use Prim.Native.Nat.{ℕ, suc, _+_, _-_, _≤_, _<_}
 use mathlib.Core.Path.{_≡_, refl, sym, ap, _∙_}
 use mathlib.Core.Bool.{true, false}
-use mathlib.Core.List.{List, [], _∷_, _++_, map, append-nil, append-assoc}
+use mathlib.Core.List.{List, [], _∷_, map}
 use native.Mathlib.Omega.{arith}
 use lib.ListN.{length, take, drop, length-append}
 use borrow.Author.Tests.{lt-ltb, le-ltb}
+use Rattle.lists.proofs.Joined.{next-line}
+use Rattle.lists.specs.Lists.{joined}
 use Rattle.router.specs.declared.Router.{Router}
 use Rattle.router.specs.Router.{viewOf, Lawful}
 use Rattle.text.specs.Text.{Pen, pen, puts}
@@ -18,24 +20,13 @@ use Rattle.run.specs.State.{handsOut, Sound, shown, Turns}
 use Rattle.run.proofs.Left.{some-next, none-next}
 use Rattle.transcript.specs.Prescribed.{lineWith, lineOf}
 use Rattle.transcript.proofs.Short.{short}
-use Rattle.pages.specs.Pages.{joined, Ready, Sight, sightOf, leftIn, linesLeft, turned, after, fitting, full, Paged}
+use Rattle.pages.specs.Pages.{Ready, Sight, sightOf, leftIn, linesLeft, turned, after, fitting, full, Paged}
 
 -- ---- room
 
 no-room : (n : ℕ) (ls : List (List ℕ)) → n < 64 → (fitting n ls ≡ 0) × (full n ls ≡ true)
 no-room n [] h = (refl, lt-ltb n 64 h)
 no-room n (l ∷ ls) h = (rw (lt-ltb n 64 h), rw (lt-ltb n 64 h))
-
--- ---- one line more
-
-next-line : (k : ℕ) (ls : List (List ℕ)) (l : List ℕ) (rest : List (List ℕ)) → drop k ls ≡ l ∷ rest
-    → (joined (take (suc k) ls) ≡ joined (take k ls) ++ l) × (drop (suc k) ls ≡ rest)
-next-line zero [] l rest e = let z : _≡_ {A = ℕ} 0 1 = cc in absurd (omega arith)
-next-line zero (x ∷ ls) l rest e = (append-nil x ∙ cc, cc)
-next-line (suc k) [] l rest e = let z : _≡_ {A = ℕ} 0 1 = cc in absurd (omega arith)
-next-line (suc k) (x ∷ ls) l rest e =
-    let h = next-line k ls l rest e in
-    (ap (λ (y : List ℕ). x ++ y) (h .0) ∙ sym (append-assoc x (joined (take k ls)) l), h .1)
 
 -- ---- the loop
 

@@ -1,5 +1,5 @@
 -- The pages of a session, from the first to the last, are the text that its input prescribes. Assumes nothing.
-use Prim.Native.Nat.{ℕ, zero, suc, _-_, _≤_, _<_}
+use Prim.Native.Nat.{ℕ, _-_, _≤_, _<_}
 use mathlib.Core.Path.{_≡_, refl, sym, ap, _∙_}
 use mathlib.Core.Bool.{true, false}
 use mathlib.Core.List.{List, [], _∷_, _++_, map, append-nil, append-assoc}
@@ -9,6 +9,8 @@ use lib.ListN.{length, take, drop, length-drop}
 use lib.Seq.{take-append-seam}
 use borrow.Table.Steps.{cases}
 use borrow.Author.Tests.{le-ltb}
+use Rattle.lists.proofs.Joined.{joined-more, joined-split}
+use Rattle.lists.specs.Lists.{joined}
 use Rattle.text.specs.Text.{Pen, pen}
 use Rattle.text.proofs.Laws.{puts-fit, puts-length}
 use Rattle.run.specs.declared.Item.{Item}
@@ -16,16 +18,7 @@ use Rattle.run.specs.declared.Session.{Session}
 use Rattle.run.specs.Start.{Begins}
 use Rattle.transcript.specs.Prescribed.{lineOf, prescribed}
 use Rattle.pages.specs.declared.Page.{Page}
-use Rattle.pages.specs.Pages.{joined, linesLeft, fitting, full, Paged}
-
-joined-split : (k : ℕ) (ls : List (List ℕ)) → joined ls ≡ joined (take k ls) ++ joined (drop k ls)
-joined-split zero ls = refl
-joined-split (suc k) [] = refl
-joined-split (suc k) (l ∷ ls) = ap (λ (x : List ℕ). l ++ x) (joined-split k ls) ∙ sym (append-assoc l (joined (take k ls)) (joined (drop k ls)))
-
-joined-more : (ps : List (List ℕ)) (p : List ℕ) → joined (ps ++ (p ∷ [])) ≡ joined ps ++ p
-joined-more [] p = append-nil p
-joined-more (x ∷ ps) p = ap (λ (y : List ℕ). x ++ y) (joined-more ps p) ∙ sym (append-assoc x (joined ps) p)
+use Rattle.pages.specs.Pages.{linesLeft, fitting, full, Paged}
 
 -- ---- one page
 

@@ -2,9 +2,10 @@
 use Prim.Native.Nat.{ℕ, zero, suc, _-_, _≤_}
 use mathlib.Core.Path.{_≡_}
 use mathlib.Core.Bool.{Bool, true, cond}
-use mathlib.Core.List.{List, [], _∷_, _++_, map}
+use mathlib.Core.List.{List, [], _∷_, map}
 use lib.Dec.{ltb}
 use lib.ListN.{length, take, drop}
+use Rattle.lists.specs.Lists.{joined}
 use Rattle.rules.specs.View.{View}
 use Rattle.router.specs.Router.{viewOf, Lawful}
 use Rattle.text.specs.Text.{pen, puts}
@@ -13,11 +14,6 @@ use Rattle.run.specs.declared.Session.{Session}
 use Rattle.run.specs.State.{itemsLeft, Sound, nextOf}
 use Rattle.transcript.specs.Prescribed.{lineOf}
 use Rattle.pages.specs.declared.Page.{Page}
-
--- lines one after the other
-abbrev pub joined : List (List ℕ) → List ℕ
-joined [] = []
-joined (l ∷ ls) = l ++ joined ls
 
 -- the law of every session that `run::begin` or `fill_page` hands back
 pub record Ready (w : Session) : Type 0 where

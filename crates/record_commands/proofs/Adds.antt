@@ -10,6 +10,7 @@ use lib.ListN.{getD, length, length-append, length-map}
 use borrow.Author.Tests.{eq-eqb, eqb-false, eqb-true, le-ltb, ne-eqb}
 use Rattle.book.proofs.Laws.{holds, law-len, lawful-of, slots-long}
 use Rattle.book.proofs.Searches.{some-place}
+use Rattle.book.proofs.Tables.{made-row}
 use Rattle.book.proofs.Views.{files-change, frame, look-made, look-none}
 use Rattle.book.specs.Book.{Fits, Lawful, bookOf, entriesOf, fileOf, filesFrom, inFile, inSlot, kindOf, noKind, pointersOf, recOf, recordsOf, slotsOf, viewOf}
 use Rattle.book.specs.declared.Book.{Book}
@@ -75,11 +76,6 @@ pointers-are : (area : List ℕ) (f : ℕ) (l : List Entry) → map (λ (r : Rec
 pointers-are area f [] = refl
 pointers-are area f (x ∷ l) = split (inFile f x) (λ t. rw t (ap (λ (z : List ℕ). x .pointer ∷ z) (pointers-are area f l))) (λ t. rw t (pointers-are area f l))
 
--- the row of a file that is made
-in-file : (ks : List Kind) (f : ℕ) → kindOf ks f .made ≡ true → (1 ≤ f) × (getD ks (f - 1) noKind ≡ kindOf ks f)
-in-file ks zero t = clash false t refl
-in-file ks (suc n) t = let m : suc n - 1 ≡ n = omega arith in (omega arith, rw m)
-
 -- ---- Add
 module _ (b : Book) (area : List ℕ) (law : Lawful b area) (f : ℕ) (key d : List ℕ) where
   pub held-is : held (viewOf b area) ≡ length (entriesOf b)
@@ -115,7 +111,7 @@ module _ (b : Book) (area : List ℕ) (law : Lawful b area) (f : ℕ) (key d : L
 
     new-fits : Fits (b .kinds) x
     new-fits =
-        let k = in-file (b .kinds) f (fit .fit .made) in
+        let k = made-row (b .kinds) f (fit .fit .made) in
         record { filed = k .0; made = rw (k .1) (fit .fit .made); slot = small; key = rw (k .1) (fit .fit .short); body = rw (k .1) (fit .fit .small) }
 
     recs : (m : ℕ) → recordsOf area′ m (entriesOf b ++ x ∷ []) ≡ cond (eqb m f) (withRecord key d (recordsOf area m (entriesOf b))) (recordsOf area m (entriesOf b))

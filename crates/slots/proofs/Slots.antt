@@ -57,6 +57,9 @@ module _ (area xs : List ℕ) (s : ℕ) (long : length area ≡ 98048) (full : l
       above t k h = split (eqb t s) (λ e. absurd (h (eqb-true t s e))) (λ e. split (ltb s t) (λ u. ltb-true s t u) (λ u. absurd (h (let z : t ≡ s = omega (arith, ltb-false s t u) in z))))
 
 -- ---- how long a slot is
+pub window-long : (area : List ℕ) (s : ℕ) → length area ≡ 98048 → s ≤ 255 → length (window area s) ≡ 383
+window-long area s long small = length-take-le 383 (drop (s * 383) area) (simp length-drop (omega arith))
+
 blank-is : replicate 383 0 ≡ blank
 unfolding blank
 blank-is = refl

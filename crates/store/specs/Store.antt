@@ -1,11 +1,11 @@
 -- The data store (section 11): what a message comes to, over the book and the lent area.
-use Prim.Native.Nat.{_+_, _<_, ℕ}
+use Prim.Native.Nat.{_<_, ℕ}
 use mathlib.Core.Bool.{Bool, cond, not, _||_}
-use mathlib.Core.List.{_++_, List, [], _∷_}
+use mathlib.Core.List.{List, [], _∷_}
 use mathlib.Core.Option.{some}
 use mathlib.Core.Path.{_≡_}
 use lib.Dec.{eqb, ltb}
-use lib.ListN.{drop, getD, length, take}
+use lib.ListN.{getD, length, take}
 use Rattle.book.specs.Book.{Lawful, entriesOf}
 use Rattle.book.specs.declared.Book.{Book}
 use Rattle.file_commands.specs.Erasing.{clearArea, clearOf, createOf, deleteFilesArea, deleteFilesOf}
@@ -55,11 +55,6 @@ roomChecks room = (ltb room 398, Failed BufferTooSmall) ∷ []
 
 abbrev pub checked : ℕ → List ℕ → Checked
 checked room message = checks (roomChecks room) (meantFor (readOf message))
-
--- ---- bytes written at a place
-
-abbrev pub over : List ℕ → ℕ → List ℕ → List ℕ
-over bytes at xs = take at bytes ++ (xs ++ drop (at + length xs) bytes)
 
 -- ---- what a command comes to: the response's data, the next book, and the area
 

@@ -20,8 +20,9 @@ ghost use mathlib.Core.Path.{_≡_};
 ghost use lib.ListN.{getD, length, take};
 ghost use Rattle.book.specs.Book.{Lawful, entriesOf, recOf};
 ghost use Rattle.files.specs.Asked.{carrying, idsShape, keyShape, recordShape, seenPart, sightBytes, wordsOf};
+ghost use Rattle.lists.specs.Lists.{over};
 ghost use Rattle.sights.specs.Sights.{sightOf};
-ghost use Rattle.store.specs.Store.{Did, Handling, Says, Shows, addDeed, checked, clearDeed, createDeed, deedOf, deleteDeed, deleteFilesDeed, elsewhere, findDeed, findDeleteDeed, getDeed, handled, over, updateDeed};
+ghost use Rattle.store.specs.Store.{Did, Handling, Says, Shows, addDeed, checked, clearDeed, createDeed, deedOf, deleteDeed, deleteFilesDeed, elsewhere, findDeed, findDeleteDeed, getDeed, handled, updateDeed};
 ghost use Rattle.tapa.specs.Numbers.{twoBytes, wordAt};
 
 // The shortest reply buffer: a head, and LEN_SKEY, 255 of key, LEN_REC, 128 of data, a pointer and a code.

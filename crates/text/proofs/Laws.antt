@@ -111,6 +111,16 @@ puts-length p (b ∷ t) =
     puts-length (pushed p b) t
     ∙ cases (ltb (p .at) (length (p .bytes))) (λ e. rw e (length-set (p .bytes) (p .at) b)) (λ e. rw e)
 
+-- the place never leaves the buffer
+pub puts-inside : (t : List ℕ) (p : Pen) → p .at ≤ length (p .bytes) → puts p t .at ≤ length (puts p t .bytes)
+unfolding puts
+puts-inside [] p h = h
+puts-inside (b ∷ t) p h =
+    puts-inside t (pushed p b)
+    (cases (ltb (p .at) (length (p .bytes)))
+    (λ e. rw e (omega (arith, ltb-true (p .at) (length (p .bytes)) e, length-set (p .bytes) (p .at) b)))
+    (λ e. rw e h))
+
 -- ---- how long numbers and bytes are in print
 
 pub hexes-length : (l : List ℕ) → length (hexesOf l) ≡ length l + length l

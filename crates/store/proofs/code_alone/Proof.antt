@@ -1,7 +1,7 @@
 -- `store::code_alone` meets its contract: two bytes at the start. Assumes nothing.
 use mathlib.Core.Path.{refl, _∙_}
+use Rattle.lists.proofs.Over.{over-start}
 use borrow.Author.Needs.{needs}
-use Rattle.store.proofs.Writes.{over-start}
 use Rattle.tapa.specs.Numbers.{twoBytes}
 use Rattle.store.proofs.code_alone.Statement.{statement}
 use Rattle.store.proofs.code_alone.Tie as tie

@@ -5,9 +5,8 @@ use mathlib.Core.Path.{ap, refl, _∙_, _≡_}
 use native.Mathlib.Omega.{arith}
 use borrow.Author.Needs.{needs}
 use borrow.Author.Tests.{eq-eqb, ne-eqb}
-use Rattle.lists.specs.Lists.{onto}
-use Rattle.store.proofs.Writes.{kept, over-start, then}
-use Rattle.store.specs.Store.{over}
+use Rattle.lists.specs.Lists.{onto, over}
+use Rattle.lists.proofs.Over.{kept, over-start, then}
 use Rattle.tapa.specs.Numbers.{twoBytes}
 use Rattle.store.proofs.code_behind.Statement.{statement}
 use Rattle.store.proofs.code_behind.Tie as tie

@@ -10,10 +10,10 @@ use borrow.Author.Needs.{needs}
 use borrow.Author.Tests.{ne-eqb}
 use Rattle.file_commands.specs.Erasing.{createOf}
 use Rattle.files.specs.Asked.{wordsOf}
-use Rattle.lists.specs.Lists.{onto}
+use Rattle.lists.specs.Lists.{onto, over}
+use Rattle.lists.proofs.Over.{kept, over-start, then}
 use Rattle.store.proofs.Deeds.{made-none, made-room, made-some, wrong}
-use Rattle.store.proofs.Writes.{kept, over-start, then, words-long}
-use Rattle.store.specs.Store.{over}
+use Rattle.store.proofs.Writes.{words-long}
 use Rattle.tapa.specs.Numbers.{twoBytes, wordAt}
 use Rattle.store.proofs.on_create.Statement.{statement}
 use Rattle.store.proofs.on_create.Tie as tie

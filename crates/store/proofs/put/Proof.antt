@@ -1,8 +1,8 @@
 -- `store::put` meets its contract: the rest stays. Assumes nothing.
 use Prim.Native.Nat.{_+_, ℕ}
 use mathlib.Core.Path.{ap}
+use Rattle.lists.proofs.Over.{copy-over}
 use borrow.Author.Needs.{needs}
-use Rattle.store.proofs.Writes.{copy-over}
 use Rattle.store.proofs.put.Statement.{statement}
 use Rattle.store.proofs.put.Tie as tie
 

@@ -5,8 +5,8 @@ use native.Mathlib.Omega.{arith}
 use lib.ListN.{length, take}
 use borrow.Author.Needs.{needs}
 use Rattle.files.specs.Asked.{wordsOf}
+use Rattle.lists.specs.Lists.{over}
 use Rattle.store.proofs.Writes.{Placed, placed-more}
-use Rattle.store.specs.Store.{over}
 use Rattle.store.proofs.put_ids.Statement.{statement}
 use Rattle.store.proofs.put_ids.Tie as tie
 

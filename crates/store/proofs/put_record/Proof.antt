@@ -5,8 +5,9 @@ use mathlib.Core.Path.{ap, refl, _∙_, _≡_}
 use native.Mathlib.Nat.{mod-eq-of-lt}
 use native.Mathlib.Omega.{arith}
 use lib.ListN.{length}
+use Rattle.lists.proofs.Over.{kept}
 use borrow.Author.Needs.{needs}
-use Rattle.store.proofs.Writes.{body-is, body-long, kept, key-is, key-long, record-written}
+use Rattle.store.proofs.Writes.{body-is, body-long, key-is, key-long, record-written}
 use Rattle.tapa.specs.Numbers.{twoBytes}
 use Rattle.store.proofs.put_record.Statement.{statement}
 use Rattle.store.proofs.put_record.Tie as tie

@@ -12,9 +12,9 @@ use Rattle.book.specs.Book.{Fits, entriesOf, noEntry, recOf}
 use Rattle.book.specs.declared.Entry.{Entry}
 use Rattle.files.specs.Asked.{sightBytes}
 use Rattle.lists.proofs.ByPlace.{all-at}
-use Rattle.lists.specs.Lists.{onto}
-use Rattle.store.proofs.Writes.{kept, over-start, sight-long, then}
-use Rattle.store.specs.Store.{over}
+use Rattle.lists.specs.Lists.{onto, over}
+use Rattle.lists.proofs.Over.{kept, over-start, then}
+use Rattle.store.proofs.Writes.{sight-long}
 use Rattle.tapa.specs.Numbers.{twoBytes}
 use Rattle.store.proofs.shown.Statement.{statement}
 use Rattle.store.proofs.shown.Tie as tie
