@@ -1,0 +1,9 @@
+pub mod Checks
+pub mod Back
+pub mod Verdicts
+pub mod Images
+pub mod OneByte
+pub mod Bytes
+pub mod Readers
+pub mod Tables
+pub mod Sounds
