@@ -1,0 +1,5 @@
+pub mod Said
+pub mod Left
+pub mod Filling
+pub mod Text
+pub mod Plain
