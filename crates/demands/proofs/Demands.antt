@@ -4,6 +4,7 @@ use Rattle.demands.specs.Demands.{Demands}
 use Rattle.demands.proofs.One.{one-result}
 use Rattle.demands.proofs.Desk.{desk}
 use Rattle.demands.proofs.Cheats.{refuses-all, one-outcome, does-nothing, echoes, made-up}
+use Rattle.demands.proofs.Lasting.{outlives}
 use Rattle.demands.proofs.Stored.{stored-as-files}
 use Rattle.demands.proofs.Used.{blank-fresh, start-from-fresh, start-with-fresh, start-fresh, used-lawful, promise-used, bounded-used, marks-used}
 
@@ -17,6 +18,7 @@ demands = record {
   echoes = echoes;
   made-up = made-up;
   store = λ h b area s. stored-as-files s;
+  lasting = λ h b area s. outlives s;
   blank-start = blank-fresh;
   start-from = start-from-fresh;
   start-with = start-with-fresh;

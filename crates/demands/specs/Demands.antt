@@ -16,6 +16,7 @@ use Rattle.demands.specs.One.{OneResult}
 use Rattle.demands.specs.Desk.{Desk}
 use Rattle.demands.specs.Cheats.{Build, Meets, RefusesAll, OneOutcome, DoesNothing, Echoes, Printing, Prints, MadeUp}
 use Rattle.book.specs.declared.Book.{Book}
+use Rattle.demands.specs.Lasting.{Lasting, Outlives}
 use Rattle.demands.specs.Stored.{AsFiles, Exchange, Stored}
 use Rattle.demands.specs.Used.{Fresh, Used}
 
@@ -39,6 +40,8 @@ pub record Demands : Type 0 where
   pub made-up : (p : Printing) → Prints p → MadeUp p → ⊥
   -- and of the data store: whatever messages it is sent, it answers and holds what a plain list of files does
   pub store : (h : List Exchange) (b : Book) (area : List ℕ) → Stored h b area → AsFiles h b area
+  -- also where its program ends and another goes on with what it saved
+  pub lasting : (h : List Exchange) (b : Book) (area : List ℕ) → Lasting h b area → Outlives h b area
   -- 3. Every public start hands back a fresh router, and every run of the code from a fresh router keeps the promise; each premise on marks is needed
   pub blank-start : Fresh blank
   pub start-from : (set : SetUp) → Settled set → Fresh (startFrom set .router)
