@@ -57,7 +57,7 @@ pub fn say(program: &[u8], line: &[u8]) {
 
 // Says what failed, with the system's reason, and tells of it. The reason is still there: writes
 // that succeed leave it alone.
-fn fail(program: &[u8], what: &[u8]) {
+pub fn fail(program: &[u8], what: &[u8]) {
     io::write_all(STDERR_FILENO, program);
     io::write_all(STDERR_FILENO, b": ");
     os::fail(what);
@@ -96,13 +96,19 @@ fn read_whole(fd: i32, buf: &mut [u8]) -> Got
     }
 }
 
-fn read_named(program: &[u8], name: &[u8], fd: i32, buf: &mut [u8]) -> Got
+// Reads the file of that name. Where it cannot be opened, nothing of it was read.
+pub fn read_file(name: &[u8], buf: &mut [u8]) -> Got
     ensures { λ r. ⌜ Counts (r .length) (now (buf .exit)) ⌝ }
 {
-    let got = read_whole(fd, buf);
-    if !got.whole {
-        fail(program, name);
+    let fd = os::open_read(name);
+    if fd < 0 {
+        return Got {
+            length: 0,
+            whole: false,
+        };
     }
+    let got = read_whole(fd, buf);
+    libc::close(fd);
     got
 }
 
@@ -113,7 +119,11 @@ fn read_standard(program: &[u8], waits: &[u8], buf: &mut [u8]) -> Got
     if libc::isatty(STDIN_FILENO) == 1 {
         say(program, waits);
     }
-    read_named(program, b"standard input", STDIN_FILENO, buf)
+    let got = read_whole(STDIN_FILENO, buf);
+    if !got.whole {
+        fail(program, b"standard input");
+    }
+    got
 }
 
 // Reads the input of that name: a file, or standard input where the name is `-`.
@@ -123,16 +133,10 @@ fn read_input(program: &[u8], waits: &[u8], name: &[u8], buf: &mut [u8]) -> Got
     if check::same(name, b"-") {
         return read_standard(program, waits, buf);
     }
-    let fd = os::open_read(name);
-    if fd < 0 {
+    let got = read_file(name, buf);
+    if !got.whole {
         fail(program, name);
-        return Got {
-            length: 0,
-            whole: false,
-        };
     }
-    let got = read_named(program, name, fd, buf);
-    libc::close(fd);
     got
 }
 
