@@ -2,10 +2,11 @@
 //
 // Usage: ./kiosk records IMAGE [FILE..]
 //
-// IMAGE is the file with the records; where there is none, it is made. The commands are messages to the
-// data store, each in a field of tag 02, and stand in the files or, without a file, in standard input.
-// An input has at most 65,536 bytes. A change is on the disk before its line is printed. Where IMAGE
-// is no whole image, or cannot be written, that is said, and it stays as it was.
+// IMAGE is the file with the records; where there is none, it is made. The commands are messages to
+// the data store, each in a field of tag 02, and stand in the files or, without a file, in standard
+// input. An input has at most 65,536 bytes. A change is on the disk before its line is printed.
+// Where IMAGE is no whole image, or cannot be written, that is said, and it stays as it was.
+// docs/book/the-kiosk-forgot.md says what to do then.
 use book::Book;
 use image::Saved;
 use layout::Verdict;
@@ -151,7 +152,8 @@ fn image_buffer() -> [u8; 99652]
     [0; 99652]
 }
 
-// Has a store on the disk, where it is not the one that was kept last. Its image stands in `last`.
+// Has a store on the disk, where it is not the one that was kept last. The buffer has room for every
+// image, so none is too small for `save`.
 fn keep(path: &[u8], b: Book, area: &[u8], last: &mut [u8], size: usize) -> Keeping
     requires { ⌜ Storable b (now area) × Room (now last) size ⌝ }
     ensures { λ r. ⌜ Keeps (imageOf b (now (area .entry))) (now (last .exit)) r ⌝ }
@@ -306,6 +308,10 @@ fn run(path: &[u8]) {
     if lock.busy {
         say_busy(path, lock.process);
         return;
+    }
+    // what is left of a lock that could not be made must not pass for ours when something is changed
+    if !lock.ours {
+        vault::free(path);
     }
     work(path);
     vault::free(path);

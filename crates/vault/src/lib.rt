@@ -21,11 +21,12 @@ ghost use Rattle.libc.specs.Io.{Ended};
 const ESRCH: i32 = 3;
 
 // Whether a lock is ours, or another's: then the number of its process, or 0 where that cannot be
-// told. It is neither where it cannot be made.
+// told. It is neither where it cannot be made. And whether it has no line of any other process.
 pub struct Lock {
     pub ours: bool,
     pub busy: bool,
     pub process: usize,
+    alone: bool,
 }
 
 // The bytes are on the disk; the lock is not ours, and nothing was written; the write failed, and the
@@ -216,10 +217,17 @@ fn living(line: &[u8], own: &[u8]) -> usize {
 
 // ---- the lock
 
+// Whether a line has our process's number, or none.
+fn is_ours_or_none(line: &[u8], own: &[u8]) -> bool {
+    let n = number(line);
+    n == 0 || n == number(own)
+}
+
 // Whose the lock is by its lines: the first's whose process lives. Our line counts where it stands
 // last: an equal one before it is that of a process that is gone.
 fn judge(text: &[u8], own: &[u8]) -> Lock {
     let mut ours = false;
+    let mut alone = true;
     let mut other = 0;
     let mut i = 0;
     while i < text.len() {
@@ -229,12 +237,14 @@ fn judge(text: &[u8], own: &[u8]) -> Lock {
         } else if other == 0 {
             other = living(&text[i..end], own);
         }
+        alone = alone && is_ours_or_none(&text[i..end], own);
         i = end + 1;
     }
     Lock {
         ours,
         busy: !ours && 0 < other,
         process: other,
+        alone,
     }
 }
 
@@ -243,6 +253,7 @@ fn nobodys() -> Lock {
         ours: false,
         busy: false,
         process: 0,
+        alone: false,
     }
 }
 
@@ -285,6 +296,7 @@ fn owner(lock: &[u8], own: &[u8]) -> Lock {
         ours: false,
         busy: true,
         process: 0,
+        alone: false,
     }
 }
 
@@ -375,7 +387,8 @@ fn sweep(path: &[u8], lines: &[u8]) {
     }
 }
 
-// Removes what was left lying by programs that are gone, and then their lines.
+// Removes what was left lying by programs that are gone, and then their lines. With that the folder
+// is on the disk: what they wrote last is, before anything is told of it.
 fn tidy(path: &[u8], lock: &[u8], own: &[u8]) {
     let mut lines = io::buffer();
     let got = inputs::read_file(lock, &mut lines);
@@ -412,11 +425,11 @@ fn owner_of(path: &[u8]) -> Lock {
     owner(&name[..m], &line[..n])
 }
 
-// Gives the lock of a file back. One that could not be made, on a full disk, leaves an empty file: that
-// is removed too.
+// Gives the lock of a file back. Where it could not be made, on a full disk, a file without a line
+// may be left, which is removed too. A lock that cannot be read is left alone.
 pub fn free(path: &[u8]) {
     let lock = owner_of(path);
-    if !lock.busy {
+    if lock.ours || lock.alone {
         let mut name = io::buffer();
         let n = lock_name(path, &mut name);
         os::unlink(&name[..n]);
@@ -425,9 +438,9 @@ pub fn free(path: &[u8]) {
 
 // ---- the file
 
-// Puts the bytes into a new file, and gives it another file's name. Where that fails there is no new
-// file, and the other is as it was.
-fn replace(new: &[u8], path: &[u8], bytes: &[u8]) -> bool {
+// Puts the bytes into a new file on the disk, and gives it another file's name. Where that fails
+// there is no new file, and the other is as it was.
+fn put_in_place(new: &[u8], path: &[u8], bytes: &[u8]) -> bool {
     let fd = os::create(new);
     if fd < 0 {
         return false;
@@ -439,13 +452,13 @@ fn replace(new: &[u8], path: &[u8], bytes: &[u8]) -> bool {
     false
 }
 
-// The same, and the name is on the disk too.
-fn replace_for_good(new: &[u8], path: &[u8], bytes: &[u8]) -> Kept {
+// The same, and then the name is on the disk too.
+fn replace(new: &[u8], path: &[u8], bytes: &[u8]) -> Kept {
     let folder = open_folder(path);
     if folder < 0 {
         return Kept::Failed;
     }
-    let done = replace(new, path, bytes);
+    let done = put_in_place(new, path, bytes);
     let synced = done && libc::fsync(folder) == 0;
     libc::close(folder);
     if synced {
@@ -454,7 +467,7 @@ fn replace_for_good(new: &[u8], path: &[u8], bytes: &[u8]) -> Kept {
     if done { Kept::Unsure } else { Kept::Failed }
 }
 
-// The bytes, on the disk under this name; or the file of this name as it was. The lock must be ours.
+// The bytes, on the disk under this name; or that file as it was. The lock must be ours.
 pub fn write(path: &[u8], bytes: &[u8]) -> Kept {
     let lock = owner_of(path);
     if !lock.ours {
@@ -462,5 +475,5 @@ pub fn write(path: &[u8], bytes: &[u8]) -> Kept {
     }
     let mut name = io::buffer();
     let n = new_name(path, process(), &mut name);
-    replace_for_good(&name[..n], path, bytes)
+    replace(&name[..n], path, bytes)
 }

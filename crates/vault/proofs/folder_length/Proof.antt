@@ -2,8 +2,8 @@
 use Prim.Native.Nat.{_-_, _≤_}
 use mathlib.Core.Logic.{⊎-elim}
 use lib.ListN.{length}
-use Rattle.io.proofs.Counting.{counts}
 use borrow.Author.Needs.{needs}
+use Rattle.io.proofs.Counting.{counts}
 use Rattle.vault.proofs.folder_length.Statement.{statement}
 use Rattle.vault.proofs.folder_length.Tie as tie
 

@@ -6,10 +6,10 @@ use Rattle.vault.proofs.judge.Statement.{statement}
 use Rattle.vault.proofs.judge.Tie as tie
 
 abbrev Inv-loop : tie.InvT-loop
-Inv-loop text own ours₀ other₀ i₀ ours other i = i ≤ length text + 1
+Inv-loop text own ours₀ alone₀ other₀ i₀ ours alone other i = i ≤ length text + 1
 
 abbrev μ-loop : tie.MeasureT-loop
-μ-loop text own ours₀ other₀ i₀ ours other i = length text + 1 - i
+μ-loop text own ours₀ alone₀ other₀ i₀ ours alone other i = length text + 1 - i
 
 pub judge-spec : {M : Type 1} → statement M
 judge-spec =
@@ -17,6 +17,10 @@ judge-spec =
     (tie.spec
     Inv-loop
     μ-loop
+    (λ c. search needs)
+    (λ c κs. search needs)
+    (λ c. search needs)
+    (λ c. search needs)
     (λ c. search needs)
     (λ c κs. search needs)
     (λ c. search needs)
