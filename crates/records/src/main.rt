@@ -109,8 +109,13 @@ fn refuse_change(path: &[u8]) {
     }
 }
 
-// Has bytes on the disk as the image, or says why not.
-fn store(path: &[u8], bytes: &[u8]) -> bool {
+// Has bytes on the disk as the image, or says why not. Where the image was read without its lock, it
+// may be another one by now.
+fn store(path: &[u8], locked: bool, bytes: &[u8]) -> bool {
+    if !locked {
+        refuse_change(path);
+        return false;
+    }
     match vault::write(path, bytes) {
         Kept::Whole => true,
         Kept::Lost => {
@@ -129,14 +134,14 @@ fn store(path: &[u8], bytes: &[u8]) -> bool {
 }
 
 // Has an image on the disk, where it is not the one that was kept last.
-fn keep_image(path: &[u8], next: &[u8], last: &mut [u8], size: usize) -> Keeping
+fn keep_image(path: &[u8], locked: bool, next: &[u8], last: &mut [u8], size: usize) -> Keeping
     requires { ⌜ (length (now next) ≤ 99652) × Room (now last) size ⌝ }
     ensures { λ r. ⌜ Keeps (now (next .entry)) (now (last .exit)) r ⌝ }
 {
     if check::same(next, &last[..size]) {
         return Keeping { done: true, size };
     }
-    if !store(path, next) {
+    if !store(path, locked, next) {
         return Keeping { done: false, size };
     }
     Keeping {
@@ -152,23 +157,31 @@ fn image_buffer() -> [u8; 99652]
     [0; 99652]
 }
 
-// Has a store on the disk, where it is not the one that was kept last. The buffer has room for every
-// image, so none is too small for `save`.
-fn keep(path: &[u8], b: Book, area: &[u8], last: &mut [u8], size: usize) -> Keeping
+// Has a store on the disk, where it is not the one that was kept last. The buffer has room for each
+// image, so it is never too small for `save`.
+fn keep(path: &[u8], locked: bool, b: Book, area: &[u8], last: &mut [u8], size: usize) -> Keeping
     requires { ⌜ Storable b (now area) × Room (now last) size ⌝ }
     ensures { λ r. ⌜ Keeps (imageOf b (now (area .entry))) (now (last .exit)) r ⌝ }
 {
     let mut next = image_buffer();
     match image::save(b, area, &mut next) {
         Saved::Small => Keeping { done: false, size },
-        Saved::Wrote(n) => keep_image(path, &next[..n], last, size),
+        Saved::Wrote(n) => keep_image(path, locked, &next[..n], last, size),
     }
 }
 
 // ---- the lines
 
 // Prints the lines of an input, a page at a time. What a page tells is on the disk before.
-fn show(path: &[u8], b: Book, area: &mut [u8], last: &mut [u8], size: usize, input: &[u8]) -> Turn
+fn show(
+    path: &[u8],
+    locked: bool,
+    b: Book,
+    area: &mut [u8],
+    last: &mut [u8],
+    size: usize,
+    input: &[u8],
+) -> Turn
     requires { ⌜ Held b (now area) (now last) size ⌝ }
     ensures { λ r. ⌜ Turned (now (area .exit)) (now (last .exit)) r ⌝ }
 {
@@ -180,7 +193,7 @@ fn show(path: &[u8], b: Book, area: &mut [u8], last: &mut [u8], size: usize, inp
         let filled = ledger::fill_page(book, area, cursor, input, &mut page);
         let after = filled.book;
         book = after;
-        let keeping = keep(path, book, area, last, kept);
+        let keeping = keep(path, locked, book, area, last, kept);
         kept = keeping.size;
         let used = filled.used;
         if !keeping.done || !inputs::write(b"records", &page[..used]) {
@@ -202,9 +215,17 @@ fn show(path: &[u8], b: Book, area: &mut [u8], last: &mut [u8], size: usize, inp
     }
 }
 
-// Reads one byte more than an input may have, so that a longer one is seen. Of a file that cannot be
-// read nothing is done; `inputs` has said why.
-fn show_input(path: &[u8], b: Book, area: &mut [u8], last: &mut [u8], size: usize, i: usize) -> Turn
+// Reads one byte more than an input may have, so that a longer one is seen. Of a file that cannot
+// be read nothing is done; `inputs` has said why.
+fn show_input(
+    path: &[u8],
+    locked: bool,
+    b: Book,
+    area: &mut [u8],
+    last: &mut [u8],
+    size: usize,
+    i: usize,
+) -> Turn
     requires { ⌜ Held b (now area) (now last) size ⌝ }
     ensures { λ r. ⌜ Turned (now (area .exit)) (now (last .exit)) r ⌝ }
 {
@@ -219,11 +240,11 @@ fn show_input(path: &[u8], b: Book, area: &mut [u8], last: &mut [u8], size: usiz
         };
     }
     let n = got.length;
-    show(path, b, area, last, size, &input[..n])
+    show(path, locked, b, area, last, size, &input[..n])
 }
 
 // Prints the lines of standard input or, where arguments name files, of each file in turn.
-fn show_inputs(path: &[u8], b: Book, area: &mut [u8], last: &mut [u8], size: usize)
+fn show_inputs(path: &[u8], locked: bool, b: Book, area: &mut [u8], last: &mut [u8], size: usize)
     requires { ⌜ Held b (now area) (now last) size ⌝ }
 {
     let count = os::arg_count();
@@ -231,7 +252,7 @@ fn show_inputs(path: &[u8], b: Book, area: &mut [u8], last: &mut [u8], size: usi
     let mut book = b;
     let mut kept = size;
     loop {
-        let turn = show_input(path, book, area, last, kept, i);
+        let turn = show_input(path, locked, book, area, last, kept, i);
         if !turn.going {
             return;
         }
@@ -246,60 +267,46 @@ fn show_inputs(path: &[u8], b: Book, area: &mut [u8], last: &mut [u8], size: usi
 }
 
 // Begins with an empty store, which is on the disk before the first line.
-fn begin(path: &[u8], area: &mut [u8], last: &mut [u8])
+fn begin(path: &[u8], locked: bool, area: &mut [u8], last: &mut [u8])
     requires { ⌜ (length (now area) ≡ 98048) × (length (now last) ≡ 99653) ⌝ }
 {
     let book = book::fresh();
-    let keeping = keep(path, book, area, last, 0);
+    let keeping = keep(path, locked, book, area, last, 0);
     if keeping.done {
-        show_inputs(path, book, area, last, keeping.size);
+        show_inputs(path, locked, book, area, last, keeping.size);
     }
 }
 
 // Goes on with the store of the image that stands in `last`.
-fn resume(path: &[u8], area: &mut [u8], last: &mut [u8], size: usize)
+fn resume(path: &[u8], locked: bool, area: &mut [u8], last: &mut [u8], size: usize)
     requires { ⌜ Room (now last) size ⌝ }
 {
     let loaded = image::load(&last[..size], area);
     let verdict = loaded.verdict;
     let book = loaded.book;
     if image::is_whole(verdict) {
-        show_inputs(path, book, area, last, size);
+        show_inputs(path, locked, book, area, last, size);
     } else {
         say_flaw(path, verdict);
     }
 }
 
 // Reads one byte more than the longest image has, so that a longer one is seen.
-fn work(path: &[u8]) {
+fn work(path: &[u8], locked: bool) {
     let mut area = [0u8; 98048];
     let mut last = [0u8; 99653];
     let got = inputs::read_file(path, &mut last);
     let n = got.length;
     if got.whole {
-        resume(path, &mut area, &mut last, n);
+        resume(path, locked, &mut area, &mut last, n);
     } else if os::errno() == libc::ENOENT {
-        begin(path, &mut area, &mut last);
+        begin(path, locked, &mut area, &mut last);
     } else {
         inputs::fail(b"records", path);
     }
 }
 
-// Whether the image can be opened, or does not exist.
-fn is_within_reach(path: &[u8]) -> bool {
-    let fd = os::open_read(path);
-    if fd < 0 {
-        return os::errno() == libc::ENOENT;
-    }
-    libc::close(fd);
-    true
-}
-
 fn run(path: &[u8]) {
-    if !is_within_reach(path) {
-        inputs::fail(b"records", path);
-        return;
-    }
     if vault::is_link(path) {
         say(path, b"it is a symbolic link; name the file itself");
         return;
@@ -309,11 +316,7 @@ fn run(path: &[u8]) {
         say_busy(path, lock.process);
         return;
     }
-    // what is left of a lock that could not be made must not pass for ours when something is changed
-    if !lock.ours {
-        vault::free(path);
-    }
-    work(path);
+    work(path, lock.ours);
     vault::free(path);
 }
 

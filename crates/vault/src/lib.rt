@@ -1,18 +1,18 @@
 // The vault: a file that is whole or not there, and one program at a time at work on it.
 //
-// `write` has the bytes on the disk in a new file before that file gets the old one's name. So whoever
-// looks finds the old bytes or the new ones and never a part of them, also where the program was killed
-// or the machine went dark.
+// `write` has the bytes on the disk in a new file before that file gets the old one's name. So
+// whoever looks finds the old bytes or the new ones and never a part of them, also where the
+// program was killed or the machine went dark.
 //
-// The lock of the file NAME is the file NAME.lock. Who wants it adds a line, with its process's number
-// and the machine's boot; the system adds one line behind the other. The first line whose process lives
-// has the lock, and removes the file at its end. So no two have it, it is never seen half made, and a
-// program that was killed keeps nobody out: its line is passed over, and so is one of an earlier boot. The new
-// file is NAME.new.N, with the process's number: who has the lock next finds in the lines what was left
-// lying, and removes it.
+// The lock of the file NAME is the file NAME.lock. Who wants it adds a line, with its process's
+// number and the machine's boot; the system adds one line behind the other. The first line whose
+// process lives has the lock, and removes the file at its end. So no two have it, it is never half
+// made, and a program that was killed keeps nobody out: its line is passed over, and so is one of
+// an earlier boot. The new file is NAME.new.N, with the process's number: who has the lock next
+// finds in the lines what was left lying, and removes it.
 //
-// What fails is answered and not said; errno still has the system's reason. No contract can say what
-// is read or written, so those here speak of lengths only.
+// What fails is answered and not said; errno still has the system's reason. No contract can say
+// what is read or written, so those here speak of lengths only.
 ghost use Prim.Native.Nat.{_<_, _≤_};
 ghost use Rattle.io.specs.Counts.{Counts};
 ghost use Rattle.libc.specs.Io.{Ended};
@@ -20,8 +20,8 @@ ghost use Rattle.libc.specs.Io.{Ended};
 // What errno has where no process has a number.
 const ESRCH: i32 = 3;
 
-// Whether a lock is ours, or another's: then the number of its process, or 0 where that cannot be
-// told. It is neither where it cannot be made. And whether it has no line of any other process.
+// Whether a lock is ours, or another's: then the number of its process, or 0 where it is no lock. It
+// is neither where it cannot be made or read. And whether it was read, and has no other's line.
 pub struct Lock {
     pub ours: bool,
     pub busy: bool,
@@ -29,8 +29,8 @@ pub struct Lock {
     alone: bool,
 }
 
-// The bytes are on the disk; the lock is not ours, and nothing was written; the write failed, and the
-// file is as it was; or it has its new bytes, and whether the disk has them is not known.
+// The bytes are on the disk; the lock is not ours, and nothing was written; the write failed, and
+// the file is as it was; or it has its new bytes, and whether the disk has them is not known.
 pub enum Kept {
     Whole,
     Lost,
@@ -199,8 +199,8 @@ fn is_of_another_boot(line: &[u8], own: &[u8]) -> bool {
     !check::same(theirs, ours)
 }
 
-// The number of a line's process where it lives, else 0. This process has our line and no other: another
-// with its number is of one that is gone.
+// The number of a line's process where it lives, else 0. This process has our line and no other:
+// another with its number is of one that is gone.
 fn living(line: &[u8], own: &[u8]) -> usize {
     let n = number(line);
     if n == 0 || n == number(own) {
@@ -215,13 +215,13 @@ fn living(line: &[u8], own: &[u8]) -> usize {
     n
 }
 
-// ---- the lock
-
 // Whether a line has our process's number, or none.
 fn is_ours_or_none(line: &[u8], own: &[u8]) -> bool {
     let n = number(line);
     n == 0 || n == number(own)
 }
+
+// ---- the lock
 
 // Whose the lock is by its lines: the first's whose process lives. Our line counts where it stands
 // last: an equal one before it is that of a process that is gone.
@@ -257,7 +257,7 @@ fn nobodys() -> Lock {
     }
 }
 
-// Whether a byte can stand in a lock: those of its lines, and zeros, which a loss of power may leave.
+// Whether a byte can stand in a lock: one of its lines', or a zero, as a loss of power may leave it.
 fn is_mark(c: u8) -> bool {
     if digit(c) < 10 {
         return true;
@@ -280,8 +280,8 @@ fn is_lock(text: &[u8]) -> bool {
     true
 }
 
-// Whose a lock is. It is nobody's where it cannot be read, and errno says why. A file that is no lock, or is
-// too long for one, is somebody's: nothing is done to it.
+// Whose a lock is. It is nobody's where it cannot be read, and errno says why. A file that is no
+// lock, or is too long for one, is somebody's: nothing is done to it.
 fn owner(lock: &[u8], own: &[u8]) -> Lock {
     let mut lines = io::buffer();
     let got = inputs::read_file(lock, &mut lines);
@@ -331,7 +331,8 @@ fn put_line(own: &[u8], entry: &mut [u8]) -> usize
     put(entry, b, b"\n")
 }
 
-// Adds our line to a lock, at once.
+// Adds our line to a lock, at once. That the disk has it too is for what a loss of power leaves
+// lying; the lock does without.
 fn enlist(lock: &[u8], own: &[u8]) -> bool {
     let fd = open_lock(lock);
     if fd < 0 {
@@ -339,7 +340,10 @@ fn enlist(lock: &[u8], own: &[u8]) -> bool {
     }
     let mut entry = [0u8; 128];
     let n = put_line(own, &mut entry);
-    fill(fd, &entry[..n])
+    let written = io::write_all(fd, &entry[..n]);
+    libc::fsync(fd);
+    libc::close(fd);
+    written
 }
 
 // Takes a lock, unless it is another's.
@@ -426,7 +430,7 @@ fn owner_of(path: &[u8]) -> Lock {
 }
 
 // Gives the lock of a file back. Where it could not be made, on a full disk, a file without a line
-// may be left, which is removed too. A lock that cannot be read is left alone.
+// may be left, which is removed too.
 pub fn free(path: &[u8]) {
     let lock = owner_of(path);
     if lock.ours || lock.alone {

@@ -1,7 +1,7 @@
 -- `records::begin` is safe and ends: the store without files is a store. Assumes nothing.
+use borrow.Author.Needs.{needs}
 use Rattle.io.proofs.Counting.{counts}
 use Rattle.records.proofs.Images.{fresh-storable}
-use borrow.Author.Needs.{needs}
 use Rattle.records.proofs.begin.Statement.{statement}
 use Rattle.records.proofs.begin.Tie as tie
 

@@ -1,9 +1,9 @@
 -- `records::keep` meets its contract: what it keeps is the image of the store. Assumes nothing.
 use mathlib.Core.Path.{sym, _∙_}
 use lib.Seq.{length-take-le}
+use borrow.Author.Needs.{needs}
 use Rattle.lists.proofs.Tests.{differ}
 use Rattle.records.proofs.Images.{saved}
-use borrow.Author.Needs.{needs}
 use Rattle.records.proofs.keep.Statement.{statement}
 use Rattle.records.proofs.keep.Tie as tie
 

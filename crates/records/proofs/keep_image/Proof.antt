@@ -1,8 +1,8 @@
 -- `records::keep_image` meets its contract: the image is the one that stands in the buffer, or is copied there. Assumes nothing.
 use mathlib.Core.Path.{sym}
+use borrow.Author.Needs.{needs}
 use Rattle.lists.proofs.Tests.{differ}
 use Rattle.records.proofs.Images.{copied}
-use borrow.Author.Needs.{needs}
 use Rattle.records.proofs.keep_image.Statement.{statement}
 use Rattle.records.proofs.keep_image.Tie as tie
 

@@ -2,9 +2,9 @@
 use mathlib.Core.Path.{sym, _∙_}
 use native.Mathlib.Omega.{arith}
 use lib.ListN.{take}
+use borrow.Author.Needs.{needs}
 use Rattle.lists.proofs.Bytes.{bytes-take}
 use Rattle.records.proofs.Images.{resumed}
-use borrow.Author.Needs.{needs}
 use Rattle.records.proofs.resume.Statement.{statement}
 use Rattle.records.proofs.resume.Tie as tie
 

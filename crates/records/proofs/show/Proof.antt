@@ -4,19 +4,19 @@ use mathlib.Core.Path.{sym, _≡_}
 use native.Mathlib.Omega.{arith}
 use lib.ListN.{length}
 use lib.Seq.{length-take-le}
+use borrow.Author.Needs.{needs}
 use borrow.Author.Tests.{not-false}
 use Rattle.ledger.specs.Ledger.{Counted}
 use Rattle.lists.proofs.Tests.{differ}
 use Rattle.records.specs.Records.{Held}
-use borrow.Author.Needs.{needs}
 use Rattle.records.proofs.show.Statement.{statement}
 use Rattle.records.proofs.show.Tie as tie
 
 abbrev Inv-loop : tie.InvT-loop
-Inv-loop path area₀ last₀ size input page₀ cursor₀ book₀ kept₀ t16 area last page cursor book kept = (4096 ≡ length page) × Held book area last kept × Counted cursor × (98048 ≡ length area₀) × (99653 ≡ length last₀)
+Inv-loop path locked area₀ last₀ size input page₀ cursor₀ book₀ kept₀ t16 area last page cursor book kept = (4096 ≡ length page) × Held book area last kept × Counted cursor × (98048 ≡ length area₀) × (99653 ≡ length last₀)
 
 abbrev μ-loop : tie.MeasureT-loop
-μ-loop path area₀ last₀ size input page₀ cursor₀ book₀ kept₀ t16 area last page cursor book kept = 65536 - cursor .at
+μ-loop path locked area₀ last₀ size input page₀ cursor₀ book₀ kept₀ t16 area last page cursor book kept = 65536 - cursor .at
 
 loop-holds : tie.Need-loop-holds Inv-loop μ-loop
 loop-holds c = (search needs, c .before .before .before .before .before .before .pre, record { number = omega arith; near = omega arith }, omega (arith, c .before .before .before .before .before .before .pre .store .law .roomy), omega (arith, c .before .before .before .before .before .before .pre .room .long))

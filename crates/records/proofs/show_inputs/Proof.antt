@@ -2,17 +2,17 @@
 use Prim.Native.Nat.{_+_, _-_, _≤_}
 use mathlib.Core.Path.{_≡_}
 use lib.ListN.{length}
+use borrow.Author.Needs.{needs}
 use borrow.Author.Tests.{not-false}
 use Rattle.records.specs.Records.{Held}
-use borrow.Author.Needs.{needs}
 use Rattle.records.proofs.show_inputs.Statement.{statement}
 use Rattle.records.proofs.show_inputs.Tie as tie
 
 abbrev Inv-loop : tie.InvT-loop
-Inv-loop path area₀ last₀ size count i₀ book₀ kept₀ area last i book kept = (i ≤ 3 + (count - 4)) × Held book area last kept × (length area ≡ length area₀) × (length last ≡ length last₀)
+Inv-loop path locked area₀ last₀ size count i₀ book₀ kept₀ area last i book kept = (i ≤ 3 + (count - 4)) × Held book area last kept × (length area ≡ length area₀) × (length last ≡ length last₀)
 
 abbrev μ-loop : tie.MeasureT-loop
-μ-loop path area₀ last₀ size count i₀ book₀ kept₀ area last i book kept = count - i
+μ-loop path locked area₀ last₀ size count i₀ book₀ kept₀ area last i book kept = count - i
 
 loop-holds : tie.Need-loop-holds Inv-loop μ-loop
 loop-holds c = (search needs, c .before .before .before .before .before .pre, search needs, search needs)
