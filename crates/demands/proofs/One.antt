@@ -41,8 +41,8 @@ one-result = record {
   replaced = λ r address x y. router.one-replaced r x y address;
   part-to-send = sending.one-part-to-send;
   reply = λ h part before x y a b. replies.one-reply h part before a b x y;
-  queue = λ es p q. queue.one-queue p q es;
-  handle = λ w h k a b. events.one-handle w a b h k;
+  queue = λ es start p q. queue.one-queue p q es start;
+  handle = λ w start h k a b. events.one-handle w start a b h k;
   slot-part = λ area s at n p q. one-slot-part area p q s at n;
   store-handle = store.one-handle;
   part-to-cut = λ message x y p q. let s = cutter.one-part-to-cut message x y p q in (s .bytes, s .place);

@@ -1,6 +1,6 @@
 -- Laws of all that a message comes to.
 use Prim.Native.Nat.{ℕ, _+_, _≤_}
-use mathlib.Core.Path.{_≡_, refl, sym, ap, _∙_}
+use mathlib.Core.Path.{_≡_, refl, ap, _∙_}
 use mathlib.Core.Bool.{Bool, true, false, not, _||_, cond}
 use mathlib.Core.List.{List, [], _∷_}
 use native.Mathlib.Omega.{arith}
@@ -23,11 +23,12 @@ use Rattle.replies.specs.Replies.{answerOf, Answers}
 use Rattle.replies.specs.Said.{saidAnswer}
 use Rattle.queue.specs.declared.Event.{Event}
 use Rattle.queue.specs.declared.Queue.{Queue}
-use Rattle.queue.specs.Places.{eventsOf, Lawful, Holds}
+use Rattle.queue.specs.Places.{eventsOf, Lawful, startOf, HoldsAt}
 use Rattle.events.specs.declared.Checked.{Checked}
 use Rattle.events.specs.declared.Checked.the-variants.{Passed, Failed}
 use Rattle.events.specs.declared.Outcome.{Outcome}
-use Rattle.events.specs.Events.{elsewhere, meantChecks, meant, roomChecks, checked, commandOf, judge, apply, carried, obeys, handled, Handling}
+use Rattle.events.specs.Events.{elsewhere, meantChecks, meant, roomChecks, checked, commandOf, judge, apply, carried, obeys, handled}
+use Rattle.events.specs.Ring.{startAfter, startHandled, HandlingAt}
 
 -- where a check's refusal did not come out, its test failed
 not-failed : (b : Bool) (r : Refusal) (rest : Checked) (h : Head) → cond b (Failed r) rest ≡ Passed h → b ≡ false
@@ -39,15 +40,15 @@ passed-room room message h e = ltb-false room 13 (not-failed (ltb room 13) _ _ h
 
 module _ (q : Queue) (message before : List ℕ) where
   pub refusing : (r : Refusal) → Lawful q → checked (length before) message ≡ Failed r
-      → Handling (handled (eventsOf q) message before) before (record { answer = Refused r; next = q })
-  unfolding handled
-  refusing r w e = rw e (record { answer = refl; next = record { events = refl; law = w }; reply = refl })
+      → HandlingAt (handled (eventsOf q) message before) (startHandled (eventsOf q) (startOf q) message before) before (record { answer = Refused r; next = q })
+  unfolding handled startHandled
+  refusing r w e = rw e (record { handling = record { answer = refl; next = record { events = refl; law = w }; reply = refl }; begins = refl })
 
   pub obeyed : (h : Head) (o : Outcome) (a : Answer) (next : Queue) (after : List ℕ) → checked (length before) message ≡ Passed h
-      → o ≡ judge (eventsOf q) (commandOf (h .kind) (partOf message)) → Holds next (apply o (eventsOf q)) → Answers h (carried o) before after a
-      → Handling (handled (eventsOf q) message before) after (record { answer = a; next = next })
-  unfolding handled
-  obeyed h o a next after e k w r = rw (e, ← k) (record { answer = r .answer; next = w; reply = r .reply })
+      → o ≡ judge (eventsOf q) (commandOf (h .kind) (partOf message)) → HoldsAt next (apply o (eventsOf q)) (startAfter o (eventsOf q) (startOf q)) → Answers h (carried o) before after a
+      → HandlingAt (handled (eventsOf q) message before) (startHandled (eventsOf q) (startOf q) message before) after (record { answer = a; next = next })
+  unfolding handled startHandled
+  obeyed h o a next after e k w r = rw (e, ← k) (record { handling = record { answer = r .answer; next = w .holds; reply = r .reply }; begins = w .begins })
 
 -- 9, 1, 2, 3, 15, in this order; else what the command comes to
 pub said-answer : (es : List Event) (s reply : List ℕ) → saidAnswer (handled es s reply .answer)

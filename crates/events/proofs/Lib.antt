@@ -1,4 +1,6 @@
 pub mod Handling
 pub mod Judging
 pub mod Once
+pub mod Ring
+pub mod Seam
 pub mod Sums

@@ -2,8 +2,9 @@
 //
 // A message is checked, read as a command, judged against the events that are held, and only then
 // is anything done. A queue goes in by value and comes back by value beside the answer. How it
-// keeps its events is the room `queue`'s; what is promised here speaks of the list of them alone.
-// How a reply is written is the room `replies`'s; what it carries is decided here.
+// keeps its events is the room `queue`'s; what is promised here speaks of the list of them, and of
+// the place where the queue's ring then begins. How a reply is written is the room `replies`'s;
+// what it carries is decided here.
 use message::Head;
 use message::Reading;
 use queue::Event;
@@ -16,8 +17,9 @@ ghost use mathlib.Core.Path.{_≡_};
 ghost use Prim.Native.Nat.{_+_, _≤_};
 ghost use lib.ListN.{length};
 ghost use Rattle.replies.specs.Replies.{Answers};
-ghost use Rattle.queue.specs.Places.{eventsOf, Lawful, Holds};
-ghost use Rattle.events.specs.Events.{elsewhere, checked, eventAt, commandOf, takenOr, judge, apply, carried, handled, Handling};
+ghost use Rattle.queue.specs.Places.{eventsOf, Lawful, startOf, HoldsAt};
+ghost use Rattle.events.specs.Events.{elsewhere, checked, eventAt, commandOf, takenOr, judge, apply, carried, handled};
+ghost use Rattle.events.specs.Ring.{startAfter, startHandled, HandlingAt};
 
 // A message that is the queue's, or why it is not looked at further.
 enum Checked {
@@ -213,7 +215,7 @@ fn judge(queue: Queue, command: Command) -> Outcome
 // Does what was decided.
 fn apply(queue: Queue, outcome: Outcome) -> Queue
     requires { ⌜ Lawful queue ⌝ }
-    ensures { λ r. ⌜ Holds r (apply outcome (eventsOf queue)) ⌝ }
+    ensures { λ r. ⌜ HoldsAt r (apply outcome (eventsOf queue)) (startAfter outcome (eventsOf queue) (startOf queue)) ⌝ }
 {
     match outcome {
         Outcome::Added(event) => queue.with(event),
@@ -227,7 +229,7 @@ fn apply(queue: Queue, outcome: Outcome) -> Queue
 // Takes a message, and hands back what it comes to and the next queue.
 pub fn handle(queue: Queue, message: &[u8], reply: &mut [u8]) -> Handled
     requires { ⌜ Lawful queue ⌝ }
-    ensures { λ r. ⌜ Handling (handled (eventsOf queue) (now (message .entry)) (now (reply .entry))) (now (reply .exit)) r ⌝ }
+    ensures { λ r. ⌜ HandlingAt (handled (eventsOf queue) (now (message .entry)) (now (reply .entry))) (startHandled (eventsOf queue) (startOf queue) (now (message .entry)) (now (reply .entry))) (now (reply .exit)) r ⌝ }
 {
     match check(message, reply.len()) {
         Checked::Failed(refusal) => Handled {

@@ -1,3 +1,4 @@
 pub mod Laws
 pub mod Taking
 pub mod Once
+pub mod Still

@@ -1,17 +1,21 @@
-// How the event queue keeps its events (section 13): at most 100, oldest first.
+// How the event queue keeps its events (section 13): at most 100, oldest first, in a ring.
+//
+// The ring begins where the oldest event stands, and after the array's last place comes its first.
+// So taking the oldest frees its place and begins the ring at the next one: no event moves. Adding
+// writes one place. Only Find closes a gap, and then the younger events move.
 //
 // A queue goes in by value and comes back by value. What the functions promise speaks of the list
-// of events alone (`eventsOf`); how they are kept is said in specs/Places.antt, and nobody else
-// has to know it.
+// of events (`eventsOf`) and of where the ring then begins (`startOf`); how the events are kept is
+// said in specs/Places.antt, and nobody else has to know it.
 use lists::Found;
 ghost use mathlib.Core.Path.{_≡_};
 ghost use mathlib.Core.List.{[]};
-ghost use Prim.Native.Nat.{_<_};
+ghost use Prim.Native.Nat.{_-_, _≤_, _<_};
 ghost use lib.Dec.{ltb};
 ghost use lib.ListN.{length};
 ghost use Rattle.lists.specs.Lists.{first, find, without, withoutAt};
 ghost use Rattle.queue.specs.Events.{most, oldest, added, knownSearch, meets, likeOf, sought};
-ghost use Rattle.queue.specs.Places.{Packs, eventIn, eventsOf, Lawful, Holds};
+ghost use Rattle.queue.specs.Places.{Packs, eventIn, placeFrom, eventsOf, Lawful, startOf, startWithout, HoldsAt};
 
 // A type byte and the address where it happened.
 pub struct Event {
@@ -19,9 +23,10 @@ pub struct Event {
     pub location: u16,
 }
 
-// At most 100 events, oldest first from place 0 on; each is packed into a number.
+// At most 100 events, oldest first from the ring's start on; each is packed into a number.
 pub struct Queue {
     places: [u32; 100],
+    start: usize,
     count: usize,
 }
 
@@ -87,14 +92,25 @@ fn unpack(x: u32) -> Event
     }
 }
 
-// ---- the queue
+// ---- the ring
 
-// A queue that holds nothing.
+// The place that lies this many places after a start: after place 99 comes place 0.
+fn place_from(start: usize, further: usize) -> usize
+    requires { ⌜ start < 100 ⌝ }
+    requires { ⌜ further ≤ 100 ⌝ }
+    ensures { λ r. ⌜ r ≡ placeFrom start further ⌝ }
+{
+    let place = start + further;
+    if place < 100 { place } else { place - 100 }
+}
+
+// A queue that holds nothing; its ring begins at place 0.
 pub fn fresh() -> Queue
-    ensures { λ r. ⌜ Holds r [] ⌝ }
+    ensures { λ r. ⌜ HoldsAt r [] 0 ⌝ }
 {
     Queue {
         places: [0; 100],
+        start: 0,
         count: 0,
     }
 }
@@ -115,7 +131,8 @@ impl Queue {
         if self.count == 0 {
             return Sought::Nothing;
         }
-        Sought::One(unpack(self.places[0]))
+        let start = self.start;
+        Sought::One(unpack(self.places[start]))
     }
 
     // The number of the oldest event that meets a search: how many are newer than it.
@@ -127,7 +144,7 @@ impl Queue {
         let mut newer = n;
         while 0 < newer {
             newer -= 1;
-            let place = n - 1 - newer;
+            let place = place_from(self.start, n - 1 - newer);
             if is_met(search, unpack(self.places[place])) {
                 return Found::At(newer);
             }
@@ -143,7 +160,7 @@ impl Queue {
         match self.find(search) {
             Found::Nothing => Sought::Nothing,
             Found::At(newer) => {
-                let place = self.count - 1 - newer;
+                let place = place_from(self.start, self.count - 1 - newer);
                 Sought::One(unpack(self.places[place]))
             }
         }
@@ -152,15 +169,30 @@ impl Queue {
     // One event more, where there is room; a full queue stays as it is.
     pub fn with(self, event: Event) -> Queue
         requires { ⌜ Lawful self ⌝ }
-        ensures { λ r. ⌜ Holds r (added event (eventsOf self)) ⌝ }
+        ensures { λ r. ⌜ HoldsAt r (added event (eventsOf self)) (startOf self) ⌝ }
     {
         let mut next = self;
         let n = self.count;
         if 100 <= n {
             return next;
         }
-        next.places[n] = pack(event);
+        let place = place_from(self.start, n);
+        next.places[place] = pack(event);
         next.count = n + 1;
+        next
+    }
+
+    // The queue without its oldest event: one place is freed, and the ring begins at the next one.
+    fn without_oldest(self) -> Queue
+        requires { ⌜ Lawful self ⌝ }
+        requires { ⌜ 0 < self .count ⌝ }
+        ensures { λ r. ⌜ HoldsAt r (withoutAt (self .count - 1) (eventsOf self)) (placeFrom (startOf self) 1) ⌝ }
+    {
+        let mut next = self;
+        let start = self.start;
+        next.places[start] = 0;
+        next.start = place_from(start, 1);
+        next.count = self.count - 1;
         next
     }
 
@@ -168,29 +200,39 @@ impl Queue {
     fn without(self, newer: usize) -> Queue
         requires { ⌜ Lawful self ⌝ }
         requires { ⌜ newer < self .count ⌝ }
-        ensures { λ r. ⌜ Holds r (withoutAt newer (eventsOf self)) ⌝ }
+        ensures { λ r. ⌜ HoldsAt r (withoutAt newer (eventsOf self)) (startOf self) ⌝ }
     {
         let mut next = self;
         let n = self.count;
         let mut left = newer;
         while 0 < left {
-            next.places[n - 1 - left] = next.places[n - left];
+            let gap = place_from(self.start, n - 1 - left);
+            let younger = place_from(self.start, n - left);
+            next.places[gap] = next.places[younger];
             left -= 1;
         }
-        next.places[n - 1] = 0;
+        let last = place_from(self.start, n - 1);
+        next.places[last] = 0;
         next.count = n - 1;
         next
     }
 
-    // The queue without the oldest event of this type and location.
+    // The queue without the oldest event of this type and location. Where that is the oldest of all,
+    // as in Get, nothing is searched and no event moves.
     pub fn taken(self, event: Event) -> Queue
         requires { ⌜ Lawful self ⌝ }
-        ensures { λ r. ⌜ Holds r (without (meets (likeOf event)) (eventsOf self)) ⌝ }
+        ensures { λ r. ⌜ HoldsAt r (without (meets (likeOf event)) (eventsOf self)) (startWithout event (eventsOf self) (startOf self)) ⌝ }
     {
         let search = Search {
             by: BY_BOTH,
             wanted: event,
         };
+        let Sought::One(oldest) = self.oldest() else {
+            return self;
+        };
+        if is_met(search, oldest) {
+            return self.without_oldest();
+        }
         match self.find(search) {
             Found::Nothing => self,
             Found::At(newer) => self.without(newer),

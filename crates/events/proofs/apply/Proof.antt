@@ -1,29 +1,30 @@
 -- `events::apply` meets its contract: an arm for each outcome. Assumes nothing.
 use mathlib.Core.Path.{refl}
 use Rattle.events.specs.Events.{apply}
+use Rattle.events.specs.Ring.{startAfter}
 use borrow.Author.Needs.{needs}
 use Rattle.events.proofs.apply.Statement.{statement}
 use Rattle.events.proofs.apply.Tie as tie
 
 returns : tie.Need-returns
-unfolding apply
+unfolding apply startAfter
 returns c = rw (c .before .before .outcome .given .1) (c .with .ensures)
 
 returns-2 : tie.Need-returns-2
-unfolding apply
-returns-2 c = rw (c .enum-told .given .1) (record { events = refl; law = c .before .before .pre })
+unfolding apply startAfter
+returns-2 c = rw (c .enum-told .given .1) (record { holds = record { events = refl; law = c .before .before .pre }; begins = refl })
 
 returns-3 : tie.Need-returns-3
-unfolding apply
+unfolding apply startAfter
 returns-3 c = rw (c .before .before .outcome2 .given .1) (c .taken .ensures)
 
 returns-4 : tie.Need-returns-4
-unfolding apply
+unfolding apply startAfter
 returns-4 c = rw (c .before .enum-told2 .given .1) (c .fresh .ensures)
 
 returns-5 : tie.Need-returns-5
-unfolding apply
-returns-5 c = rw (c .enum-told3 .given .1) (record { events = refl; law = c .before .before .pre })
+unfolding apply startAfter
+returns-5 c = rw (c .enum-told3 .given .1) (record { holds = record { events = refl; law = c .before .before .pre }; begins = refl })
 
 pub apply-spec : {M : Type 1} → statement M
 apply-spec =

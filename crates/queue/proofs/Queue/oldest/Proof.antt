@@ -1,4 +1,4 @@
--- `queue::Queue::oldest` meets its contract: the oldest event stands at place 0. Assumes nothing.
+-- `queue::Queue::oldest` meets its contract: the oldest event stands where the ring begins. Assumes nothing.
 use mathlib.Core.Path.{sym, ap}
 use Rattle.queue.specs.Events.{sought}
 use Rattle.queue.proofs.Laws.{oldest-there}
@@ -7,7 +7,9 @@ use Rattle.queue.proofs.Queue.oldest.Statement.{statement}
 use Rattle.queue.proofs.Queue.oldest.Tie as tie
 
 returns-2 : tie.Need-returns-2
-returns-2 c = rw (c .unpack .ensures) (ap sought (sym (oldest-there _ _ (c .before .before .if1 .left))))
+returns-2 c =
+    let s = c .before .before .before in
+    rw (c .unpack .ensures) (ap sought (sym (oldest-there _ _ _ (s .pre .begun) (c .before .before .if1 .left))))
 
 pub oldest-spec : {M : Type 1} → statement M
-oldest-spec = tie.close (tie.spec (λ c. search needs) (λ c. search needs) (λ c κs. search needs) returns-2)
+oldest-spec = tie.close (tie.spec (λ c. search needs) (λ c. search needs) (λ c. search needs) (λ c κs. search needs) returns-2)

@@ -1,30 +1,32 @@
 -- `queue::Queue::oldest_met` meets its contract: the number that a walk found leads to the event. Assumes nothing.
-use mathlib.Core.Path.{sym, ap, _∙_}
-use native.Mathlib.Nat.{zero-add}
+use mathlib.Core.Path.{_≡_, sym, ap, _∙_}
 use native.Mathlib.Omega.{arith}
 use Rattle.lists.specs.Lists.{find}
+use Rattle.lists.specs.declared.Found.the-variants.{At}
 use Rattle.lists.proofs.Numbers.{find-none}
 use Rattle.queue.specs.Events.{meets, sought}
 use Rattle.queue.specs.Places.{eventsOf}
-use Rattle.queue.proofs.Laws.{Stands, stands}
+use Rattle.queue.proofs.Laws.{met-inside, met-there}
 use borrow.Author.Needs.{needs}
 use Rattle.queue.proofs.Queue.oldest_met.Statement.{statement}
 use Rattle.queue.proofs.Queue.oldest_met.Tie as tie
 
-found : (c : tie.After-newer) → Stands (meets (c .before .before .before .args .search)) (c .before .before .before .args .t1 .places) 0 (c .before .before .before .args .t1 .count) (c .newer .given .0 .0)
-found c = stands _ _ 0 _ _ (sym (c .before .before .find .ensures) ∙ c .newer .given .1)
+found : (c : tie.After-newer) → find (meets (c .before .before .before .args .search)) (eventsOf (c .before .before .before .args .t1)) ≡ At (c .newer .given .0 .0)
+found c = sym (c .before .before .find .ensures) ∙ c .newer .given .1
 
-sub-place : tie.Need-sub-place
-sub-place c = omega (arith, found (c .before) .inside)
+sub-place : tie.Need-sub-place-from
+sub-place c = omega (arith, met-inside _ (c .before .before .before .before .args .t1) _ (found (c .before)))
 
-sub-place-2 : tie.Need-sub-place-2
-sub-place-2 c = omega (arith, found (c .before) .inside)
+sub-place-2 : tie.Need-sub-place-from-2
+sub-place-2 c = omega (arith, met-inside _ (c .before .before .before .before .args .t1) _ (found (c .before)))
 
 returns : tie.Need-returns
 returns c = ap sought (sym (find-none (meets (c .before .before .before .args .search)) (eventsOf (c .before .before .before .args .t1)) (sym (c .before .before .find .ensures) ∙ c .enum-told .given .1)))
 
 returns-2 : tie.Need-returns-2
-returns-2 c = rw (c .unpack .ensures) (ap sought (sym (rw zero-add at (found (c .before .before .before) .it))))
+returns-2 c =
+    let n = c .before .before .before .before in
+    rw (c .unpack .ensures, c .before .before .place-from .ensures) (ap sought (sym (met-there _ (n .before .before .before .args .t1) _ (found n))))
 
 pub oldest-met-spec : {M : Type 1} → statement M
 oldest-met-spec =
@@ -35,6 +37,7 @@ oldest-met-spec =
     (λ c. search needs)
     sub-place
     sub-place-2
+    (λ c κs. search needs)
     (λ c. search needs)
     (λ c. search needs)
     (λ c κs. search needs)

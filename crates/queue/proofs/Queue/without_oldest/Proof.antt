@@ -1,0 +1,13 @@
+-- `queue::Queue::without_oldest` meets its contract: the ring begins one place later, and no other number changes. Assumes nothing.
+use Rattle.queue.proofs.Laws.{holds-rest}
+use borrow.Author.Needs.{needs}
+use Rattle.queue.proofs.Queue.without_oldest.Statement.{statement}
+use Rattle.queue.proofs.Queue.without_oldest.Tie as tie
+
+returns : tie.Need-returns
+returns c =
+    let s = c .before .before in
+    rw (c .before .place-from .ensures) (holds-rest (s .args .self) (s .pre .0) (s .pre .1))
+
+pub without-oldest-spec : {M : Type 1} → statement M
+without-oldest-spec = tie.close (tie.spec (λ c. search needs) (λ c. search needs) (λ c κs. search needs) (λ c. search needs) returns)
