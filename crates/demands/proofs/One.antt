@@ -42,7 +42,8 @@ one-result = record {
   part-to-send = sending.one-part-to-send;
   reply = λ h part before x y a b. replies.one-reply h part before a b x y;
   queue = λ es start p q. queue.one-queue p q es start;
-  handle = λ w start h k a b. events.one-handle w start a b h k;
+  lent-queue = λ es start s t l m. queue.one-lent l m s t es start;
+  handle = λ q message before h k a b. events.one-handle q message before a b h k;
   slot-part = λ area s at n p q. one-slot-part area p q s at n;
   store-handle = store.one-handle;
   part-to-cut = λ message x y p q. let s = cutter.one-part-to-cut message x y p q in (s .bytes, s .place);

@@ -23,8 +23,9 @@ use Rattle.router.specs.Router.{Routes, GivesUp, Replaces}
 use Rattle.sending.specs.Sending.{Sending}
 use Rattle.replies.specs.Replies.{Replies}
 use Rattle.queue.specs.declared.Event.{Event}
-use Rattle.queue.specs.Places.{HoldsAt}
-use Rattle.events.specs.Events.{Result}
+use Rattle.queue.specs.declared.Queue.{Queue}
+use Rattle.queue.specs.declared.Stretch.{Stretch}
+use Rattle.queue.specs.Places.{queueOf, HoldsAt}
 use Rattle.events.specs.Ring.{HandlingAt}
 use Rattle.store.specs.Store as store
 use Rattle.store.specs.declared.Handled.{Handled}
@@ -91,9 +92,10 @@ pub record OneResult : Type 0 where
   pub part-to-send : (o : Outcome) (message reply : RefT (List ℕ)) → OnePart (Sending o message reply)
   -- replies (with_part, with_code)
   pub reply : (h : Head) (part before : List ℕ) → OneWith (λ a after. Replies h part before after a)
-  -- queue (fresh, with, taken), events
+  -- queue: a queue (fresh), the stretch and the array (add, take, clear); events
   pub queue : (events : List Event) (start : ℕ) → One (λ q. HoldsAt q events start)
-  pub handle : (w : Result) (start : ℕ) → OneWith (λ h after. HandlingAt w start after h)
+  pub lent-queue : (events : List Event) (start : ℕ) → OneWith (λ (s : Stretch) (places : List ℕ). HoldsAt (queueOf places s) events start)
+  pub handle : (q : Queue) (message before : List ℕ) → OneWith (λ h after. HandlingAt q message before after h)
   -- store: the answer and the next book, the area, the reply buffer
   pub slot-part : (area : RefT (List ℕ)) (s at n : ℕ) → OnePart (λ (p : RefT (List ℕ)). SlotPart area p s at n)
   pub store-handle : (w : store.Result) (area area′ before before′ : List ℕ) (h k : Handled) → store.Handling w area before h → store.Handling w area′ before′ k

@@ -40,15 +40,18 @@ passed-room room message h e = ltb-false room 13 (not-failed (ltb room 13) _ _ h
 
 module _ (q : Queue) (message before : List ℕ) where
   pub refusing : (r : Refusal) → Lawful q → checked (length before) message ≡ Failed r
-      → HandlingAt (handled (eventsOf q) message before) (startHandled (eventsOf q) (startOf q) message before) before (record { answer = Refused r; next = q })
+      → HandlingAt q message before before (record { answer = Refused r; next = q })
   unfolding handled startHandled
-  refusing r w e = rw e (record { handling = record { answer = refl; next = record { events = refl; law = w }; reply = refl }; begins = refl })
+  refusing r w e = record { handling = rw e (record { answer = refl; next = record { events = refl; law = w }; reply = refl }); begins = rw e }
 
   pub obeyed : (h : Head) (o : Outcome) (a : Answer) (next : Queue) (after : List ℕ) → checked (length before) message ≡ Passed h
       → o ≡ judge (eventsOf q) (commandOf (h .kind) (partOf message)) → HoldsAt next (apply o (eventsOf q)) (startAfter o (eventsOf q) (startOf q)) → Answers h (carried o) before after a
-      → HandlingAt (handled (eventsOf q) message before) (startHandled (eventsOf q) (startOf q) message before) after (record { answer = a; next = next })
+      → HandlingAt q message before after (record { answer = a; next = next })
   unfolding handled startHandled
-  obeyed h o a next after e k w r = rw (e, ← k) (record { handling = record { answer = r .answer; next = w .holds; reply = r .reply }; begins = w .begins })
+  obeyed h o a next after e k w r = record {
+    handling = rw (e, ← k) (record { answer = r .answer; next = w .holds; reply = r .reply });
+    begins = rw (e, ← k) (w .begins);
+  }
 
 -- 9, 1, 2, 3, 15, in this order; else what the command comes to
 pub said-answer : (es : List Event) (s reply : List ℕ) → saidAnswer (handled es s reply .answer)

@@ -3,20 +3,20 @@ use Prim.Native.Nat.{ℕ}
 use mathlib.Core.Path.{_≡_, refl, ap, _∙_}
 use mathlib.Core.Bool.{true, false}
 use mathlib.Core.List.{List, [], _∷_}
-use mathlib.Core.Option.{some}
+use mathlib.Core.Option.{Option, none, some}
 use lib.ListN.{length, getD}
 use Rattle.lists.specs.Lists.{first}
 use Rattle.lists.proofs.Tests.{split, differ}
 use Rattle.lists.proofs.First.{first-yes}
-use Rattle.tapa.specs.Codes.{noEvents}
+use Rattle.tapa.specs.Codes.{noEvents, noMatchingEvents}
 use Rattle.message.specs.declared.Head.{Head}
 use Rattle.message.specs.Message.{partOf}
 use Rattle.queue.specs.declared.Event.{Event}
 use Rattle.queue.specs.declared.Queue.{Queue}
 use Rattle.queue.specs.declared.Search.{Search}
-use Rattle.queue.specs.Events.{oldest, knownSearch, meets, likeOf}
+use Rattle.queue.specs.Events.{oldest, knownSearch, meets, likeOf, sought}
 use Rattle.queue.specs.Places.{placeFrom, eventsOf, Lawful, startOf, HoldsAt}
-use Rattle.queue.proofs.Taking.{alike, like-itself}
+use Rattle.queue.proofs.Taking.{alike, like-itself, meets-known}
 use Rattle.queue.proofs.Once.{one-queue}
 use Rattle.queue.proofs.Still.{oldest-still, added-still}
 use Rattle.events.specs.declared.Checked.the-variants.{Passed}
@@ -24,7 +24,7 @@ use Rattle.events.specs.declared.Command.the-variants.{Get, Find}
 use Rattle.events.specs.declared.Outcome.{Outcome}
 use Rattle.events.specs.declared.Outcome.the-variants.{Added, Taken, Coded}
 use Rattle.events.specs.declared.Handled.{Handled}
-use Rattle.events.specs.Events.{isEmpty, checked, commandOf, judge, apply, handled}
+use Rattle.events.specs.Events.{isEmpty, checked, commandOf, takenOr, judge, apply, handled}
 use Rattle.events.specs.Ring.{startAfter, startHandled, HandlingAt}
 
 -- ---- where the ring begins
@@ -34,18 +34,28 @@ pub get-goes-on : (e : Event) (es : List Event) (start : ℕ) → startAfter (ju
 unfolding judge startAfter
 get-goes-on e es start = rw (like-itself e)
 
--- taken by Find, and not the oldest: at the same place
-pub find-stays : (s : Search) (e x : Event) (es : List Event) (start : ℕ) → first (meets s) (x ∷ es) ≡ some e → meets s x ≡ false → startAfter (Taken e) (x ∷ es) start ≡ start
-unfolding startAfter
-find-stays s e x es start f n =
-    split (meets (likeOf e) x)
-    (λ p. let y : meets s x ≡ true = ap (meets s) (alike e x p) ∙ first-yes (meets s) (x ∷ es) e f in differ (cc))
-    (λ p. rw p)
+-- the oldest taken by Find: as Get
+pub find-goes-on : (s : Search) (e : Event) (es : List Event) (start : ℕ) → meets s e ≡ true → startAfter (judge (e ∷ es) (Find s)) (e ∷ es) start ≡ placeFrom start 1
+unfolding judge startAfter
+find-goes-on s e es start m = rw (meets-known s e m, m, like-itself e)
+
+-- another one taken by Find, or none: at the same place
+pub find-stays : (s : Search) (x : Event) (es : List Event) (start : ℕ) → meets s x ≡ false → startAfter (judge (x ∷ es) (Find s)) (x ∷ es) start ≡ start
+unfolding judge startAfter
+find-stays s x es start n =
+    split (knownSearch (s .by)) (λ t. rw (t, n) (found (first (meets s) es) refl)) (λ t. rw t)
+  where
+    found : (o : Option Event) → first (meets s) es ≡ o → startAfter (takenOr noMatchingEvents (sought o)) (x ∷ es) start ≡ start
+    found none f = refl
+    found (some e) f =
+        split (meets (likeOf e) x)
+        (λ p. let y : meets s x ≡ true = ap (meets s) (alike e x p) ∙ first-yes (meets s) es e f in differ (cc))
+        (λ p. rw p)
 
 -- ---- which numbers are as they were
 
 module _ (q : Queue) (w : Lawful q) (s before after : List ℕ) (h : Handled)
-    (k : HandlingAt (handled (eventsOf q) s before) (startHandled (eventsOf q) (startOf q) s before) after h)
+    (k : HandlingAt q s before after h)
     (head : Head) (passed : checked (length before) s ≡ Passed head) where
   came : (o : Outcome) → judge (eventsOf q) (commandOf (head .kind) (partOf s)) ≡ o → HoldsAt (h .next) (apply o (eventsOf q)) (startAfter o (eventsOf q) (startOf q))
   unfolding handled startHandled
@@ -67,11 +77,13 @@ module _ (q : Queue) (w : Lawful q) (s before after : List ℕ) (h : Handled)
       go (x ∷ es) z = oldest-taken-still x (rw (g, z)) (rw z) i d
 
   -- after a Find of the oldest too
-  pub find-still : (search : Search) (e : Event) → commandOf (head .kind) (partOf s) ≡ Find search → knownSearch (search .by) ≡ true
+  pub find-still : (search : Search) (e : Event) → commandOf (head .kind) (partOf s) ≡ Find search
       → first (meets search) (eventsOf q) ≡ some e → oldest (eventsOf q) ≡ some e
       → (i : ℕ) → (i ≡ startOf q → ⊥) → getD (h .next .places) i 0 ≡ getD (q .places) i 0
   unfolding judge
-  find-still search e g t f o i d = oldest-taken-still e (rw (g, t, filled (eventsOf q) o, f)) o i d
+  find-still search e g f o i d =
+      let t = meets-known search e (first-yes (meets search) (eventsOf q) e f) in
+      oldest-taken-still e (rw (g, t, filled (eventsOf q) o, f)) o i d
     where
       filled : (es : List Event) → oldest es ≡ some e → isEmpty es ≡ false
       filled [] z = differ (cc)

@@ -79,6 +79,7 @@ pub goes-over : after (replicate 39 Get) (ring (events 61 38 ++ events 101 58) 6
 unfolding judge apply startAfter meets
 goes-over = refl
 
+-- Flush of the ring that went over the seam, as it was before those Gets
 pub flushes : after (Flush ∷ []) (ring (events 61 38 ++ events 101 58) 61) ≡ ring [] 0
 unfolding judge apply startAfter
 flushes = refl

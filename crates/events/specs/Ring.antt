@@ -5,13 +5,15 @@ use mathlib.Core.List.{List}
 use lib.ListN.{length}
 use Rattle.message.specs.Message.{partOf}
 use Rattle.queue.specs.declared.Event.{Event}
-use Rattle.queue.specs.Places.{startOf, startWithout}
+use Rattle.queue.specs.declared.Queue.{Queue}
+use Rattle.queue.specs.Places.{eventsOf, queueOf, startOf, startWithout}
 use Rattle.events.specs.declared.Outcome.{Outcome}
 use Rattle.events.specs.declared.Outcome.the-variants.{Added, Ignored, Taken, Emptied, Coded}
 use Rattle.events.specs.declared.Checked.{Checked}
 use Rattle.events.specs.declared.Checked.the-variants.{Passed, Failed}
 use Rattle.events.specs.declared.Handled.{Handled}
-use Rattle.events.specs.Events.{checked, commandOf, judge, Result, Handling}
+use Rattle.events.specs.declared.Step.{Step}
+use Rattle.events.specs.Events.{checked, commandOf, judge, handled, Handling}
 
 -- after an outcome; the events are those that were held before it
 unfoldable pub startAfter : Outcome → List Event → ℕ → ℕ
@@ -32,7 +34,13 @@ startObeyed (Passed h) es part start = startAfter (judge es (commandOf (h .kind)
 unfoldable pub startHandled : List Event → ℕ → List ℕ → List ℕ → ℕ
 startHandled es start message reply = startObeyed (checked (length reply) message) es (partOf message) start
 
--- a call that came to this, and whose queue's ring then begins here
-pub record HandlingAt (w : Result) (start : ℕ) (after : List ℕ) (h : Handled) : Type 0 where
-  pub handling : Handling w after h
-  pub begins : startOf (h .next) ≡ start
+-- ---- what the functions promise
+
+-- a message to a queue: what it came to and what the lent buffer then holds, and where the next queue's ring begins
+pub record HandlingAt (q : Queue) (message before after : List ℕ) (h : Handled) : Type 0 where
+  pub handling : Handling (handled (eventsOf q) message before) after h
+  pub begins : startOf (h .next) ≡ startHandled (eventsOf q) (startOf q) message before
+
+-- the same in place: the lent array and the stretch of it that is in use are the next queue
+abbrev pub handledIn : List ℕ → Step → Handled
+handledIn places s = record { answer = s .answer; next = queueOf places (s .stretch) }

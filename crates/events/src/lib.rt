@@ -1,25 +1,26 @@
 // The event queue (section 13): devices post events, and applications take them.
 //
 // A message is checked, read as a command, judged against the events that are held, and only then
-// is anything done. A queue goes in by value and comes back by value beside the answer. How it
-// keeps its events is the room `queue`'s; what is promised here speaks of the list of them, and of
-// the place where the queue's ring then begins. How a reply is written is the room `replies`'s;
-// what it carries is decided here.
+// is anything done. A queue goes in by value and comes back by value beside the answer; in between
+// its array is lent, and worked on in place. How it keeps its events is the room `queue`'s; what is
+// promised here speaks of the list of them, and of the place where the queue's ring then begins.
+// How a reply is written is the room `replies`'s; what it carries is decided here.
 use message::Head;
 use message::Reading;
 use queue::Event;
 use queue::Queue;
 use queue::Search;
 use queue::Sought;
+use queue::Stretch;
 use replies::Answer;
 use tapa::Refusal;
 ghost use mathlib.Core.Path.{_≡_};
 ghost use Prim.Native.Nat.{_+_, _≤_};
 ghost use lib.ListN.{length};
 ghost use Rattle.replies.specs.Replies.{Answers};
-ghost use Rattle.queue.specs.Places.{eventsOf, Lawful, startOf, HoldsAt};
-ghost use Rattle.events.specs.Events.{elsewhere, checked, eventAt, commandOf, takenOr, judge, apply, carried, handled};
-ghost use Rattle.events.specs.Ring.{startAfter, startHandled, HandlingAt};
+ghost use Rattle.queue.specs.Places.{queueOf, eventsIn, Lawful, HoldsAt};
+ghost use Rattle.events.specs.Events.{elsewhere, checked, eventAt, commandOf, takenOr, judge, apply, carried};
+ghost use Rattle.events.specs.Ring.{startAfter, handledIn, HandlingAt};
 
 // A message that is the queue's, or why it is not looked at further.
 enum Checked {
@@ -44,6 +45,12 @@ enum Outcome {
     Taken(Event),
     Emptied,
     Coded(u16),
+}
+
+// What a message came to in place: the answer, and which places of the ring then hold events.
+struct Step {
+    answer: Answer,
+    stretch: Stretch,
 }
 
 // What a message came to, beside the queue as it then is.
@@ -174,37 +181,40 @@ fn taken_or(code: u16, sought: Sought) -> Outcome
 }
 
 // Find, in the order of its failures.
-fn judge_find(queue: Queue, search: Search) -> Outcome
-    requires { ⌜ Lawful queue ⌝ }
-    ensures { λ r. ⌜ r ≡ judge (eventsOf queue) (Command.Find search) ⌝ }
+fn judge_find(places: &[u32; 100], stretch: Stretch, search: Search) -> Outcome
+    requires { ⌜ Lawful (queueOf (now places) stretch) ⌝ }
+    ensures { λ r. ⌜ r ≡ judge (eventsIn (now (places .entry)) stretch) (Command.Find search) ⌝ }
 {
     if !queue::is_known_search(search.by) {
         return Outcome::Coded(tapa::UNSUPPORTED_OPERATION);
     }
-    match queue.oldest() {
+    match queue::oldest(places, stretch) {
         Sought::Nothing => Outcome::Coded(tapa::NO_EVENTS),
-        Sought::One(_) => taken_or(tapa::NO_MATCHING_EVENTS, queue.oldest_met(search)),
+        Sought::One(_) => taken_or(
+            tapa::NO_MATCHING_EVENTS,
+            queue::oldest_met(places, stretch, search),
+        ),
     }
 }
 
 // What a command comes to. Nothing is done yet.
-fn judge(queue: Queue, command: Command) -> Outcome
-    requires { ⌜ Lawful queue ⌝ }
-    ensures { λ r. ⌜ r ≡ judge (eventsOf queue) command ⌝ }
+fn judge(places: &[u32; 100], stretch: Stretch, command: Command) -> Outcome
+    requires { ⌜ Lawful (queueOf (now places) stretch) ⌝ }
+    ensures { λ r. ⌜ r ≡ judge (eventsIn (now (places .entry)) stretch) command ⌝ }
 {
     match command {
         Command::Add(event) => {
-            if queue.has_room() {
+            if queue::has_room(stretch) {
                 Outcome::Added(event)
             } else {
                 Outcome::Ignored
             }
         }
         Command::WrongAdd => Outcome::Ignored,
-        Command::Get => taken_or(tapa::NO_EVENTS, queue.oldest()),
-        Command::Find(search) => judge_find(queue, search),
+        Command::Get => taken_or(tapa::NO_EVENTS, queue::oldest(places, stretch)),
+        Command::Find(search) => judge_find(places, stretch, search),
         // Success is said only where there was something to flush.
-        Command::Flush => match queue.oldest() {
+        Command::Flush => match queue::oldest(places, stretch) {
             Sought::Nothing => Outcome::Coded(tapa::NO_EVENTS),
             Sought::One(_) => Outcome::Emptied,
         },
@@ -213,35 +223,61 @@ fn judge(queue: Queue, command: Command) -> Outcome
 }
 
 // Does what was decided.
-fn apply(queue: Queue, outcome: Outcome) -> Queue
-    requires { ⌜ Lawful queue ⌝ }
-    ensures { λ r. ⌜ HoldsAt r (apply outcome (eventsOf queue)) (startAfter outcome (eventsOf queue) (startOf queue)) ⌝ }
+fn apply(places: &mut [u32; 100], stretch: Stretch, outcome: Outcome) -> Stretch
+    requires { ⌜ Lawful (queueOf (now places) stretch) ⌝ }
+    ensures { λ r. ⌜ HoldsAt (queueOf (now (places .exit)) r) (apply outcome (eventsIn (now (places .entry)) stretch)) (startAfter outcome (eventsIn (now (places .entry)) stretch) (stretch .start)) ⌝ }
 {
     match outcome {
-        Outcome::Added(event) => queue.with(event),
-        Outcome::Ignored => queue,
-        Outcome::Taken(event) => queue.taken(event),
-        Outcome::Emptied => queue::fresh(),
-        Outcome::Coded(_) => queue,
+        Outcome::Added(event) => queue::add(places, stretch, event),
+        Outcome::Ignored => stretch,
+        Outcome::Taken(event) => queue::take(places, stretch, event),
+        Outcome::Emptied => queue::clear(places, stretch),
+        Outcome::Coded(_) => stretch,
+    }
+}
+
+// ---- a message
+
+// Takes a message, in place.
+fn serve(places: &mut [u32; 100], stretch: Stretch, message: &[u8], reply: &mut [u8]) -> Step
+    requires { ⌜ Lawful (queueOf (now places) stretch) ⌝ }
+    ensures { λ r. ⌜ HandlingAt (queueOf (now (places .entry)) stretch) (now (message .entry)) (now (reply .entry)) (now (reply .exit)) (handledIn (now (places .exit)) r) ⌝ }
+{
+    match check(message, reply.len()) {
+        Checked::Failed(refusal) => Step {
+            answer: Answer::Refused(refusal),
+            stretch,
+        },
+        Checked::Passed(head) => {
+            let command = read_command(head.kind, message::data_part(message));
+            let outcome = judge(places, stretch, command);
+            let after = apply(places, stretch, outcome);
+            let answer = answered(reply, head, outcome);
+            Step {
+                answer,
+                stretch: after,
+            }
+        }
     }
 }
 
 // Takes a message, and hands back what it comes to and the next queue.
 pub fn handle(queue: Queue, message: &[u8], reply: &mut [u8]) -> Handled
     requires { ⌜ Lawful queue ⌝ }
-    ensures { λ r. ⌜ HandlingAt (handled (eventsOf queue) (now (message .entry)) (now (reply .entry))) (startHandled (eventsOf queue) (startOf queue) (now (message .entry)) (now (reply .entry))) (now (reply .exit)) r ⌝ }
+    ensures { λ r. ⌜ HandlingAt queue (now (message .entry)) (now (reply .entry)) (now (reply .exit)) r ⌝ }
 {
-    match check(message, reply.len()) {
-        Checked::Failed(refusal) => Handled {
-            answer: Answer::Refused(refusal),
-            next: queue,
-        },
-        Checked::Passed(head) => {
-            let command = read_command(head.kind, message::data_part(message));
-            let outcome = judge(queue, command);
-            let next = apply(queue, outcome);
-            let answer = answered(reply, head, outcome);
-            Handled { answer, next }
-        }
-    }
+    let mut places = queue.places;
+    let stretch = Stretch {
+        start: queue.start,
+        count: queue.count,
+    };
+    let step = serve(&mut places, stretch, message, reply);
+    let answer = step.answer;
+    let after = step.stretch;
+    let next = Queue {
+        places,
+        start: after.start,
+        count: after.count,
+    };
+    Handled { answer, next }
 }

@@ -7,7 +7,7 @@ use mathlib.Core.Option.{some}
 use native.Mathlib.Numerals.{add-one}
 use native.Mathlib.Omega.{arith}
 use lib.Dec.{eqb, ltb}
-use lib.ListN.{length, replicate, getD, set, length-set, length-replicate}
+use lib.ListN.{length, replicate, getD, set, length-set, length-replicate, List·getD-eq-default}
 use lib.Seq.{append-snoc, getD-set-same, getD-set-other}
 use borrow.Author.Tests.{lt-ltb, le-ltb, ltb-true, ltb-false, eq-eqb, ne-eqb, eqb-true, eqb-false}
 use Rattle.lists.specs.Lists.{first, find, withoutAt}
@@ -30,6 +30,14 @@ begins s h = omega arith
 further-on : (s i : ℕ) → s < most → suc i < most → placeFrom s (suc i) ≡ s → ⊥
 further-on s i b h e = omega arith
 
+-- one place further
+pub one-further : (s i j : ℕ) → j ≡ suc i → placeFrom (placeFrom s i) 1 ≡ placeFrom s j
+one-further s i j e = omega arith
+
+-- every place lies some way after the start
+pub reached : (s i : ℕ) → s < most → i < most → placeFrom s ((i + most - s) % most) ≡ i
+reached s i b h = omega arith
+
 module _ (l : List ℕ) (s p v : ℕ) (here : p < most) where
   -- what is stored so many places after the start is seen there, and nowhere else
   stored-there : length l ≡ most → numberAt (set l (placeFrom s p) v) s p ≡ v
@@ -37,6 +45,13 @@ module _ (l : List ℕ) (s p v : ℕ) (here : p < most) where
 
   stored-elsewhere : (i : ℕ) → i < most → (i ≡ p → ⊥) → numberAt (set l (placeFrom s p) v) s i ≡ numberAt l s i
   stored-elsewhere i h d = getD-set-other l (placeFrom s p) (placeFrom s i) v 0 (λ e. d (omega arith))
+
+-- the last place in use is freed
+freed : (l : List ℕ) (s p : ℕ) → p < most → length l ≡ most → ((i : ℕ) → p < i → i < most → numberAt l s i ≡ 0)
+    → (i : ℕ) → p ≤ i → i < most → numberAt (set l (placeFrom s p) 0) s i ≡ 0
+freed l s p b long free i g h =
+    split (eqb i p) (λ e. rw (eqb-true i p e) (stored-there l s p 0 b long))
+    (λ e. stored-elsewhere l s p 0 b i h (eqb-false i p e) ∙ free i (omega (arith, eqb-false i p e)) h)
 
 -- ---- reading
 
@@ -88,20 +103,23 @@ packs e hk hl =
 
 -- ---- a queue that holds nothing
 
-pub holds-none : HoldsAt (record { places = replicate 100 0; start = 0; count = 0 }) [] 0
-holds-none = record {
+holds-zeros : (l : List ℕ) → length l ≡ most → ((i : ℕ) → getD l i 0 ≡ 0) → HoldsAt (record { places = l; start = 0; count = 0 }) [] 0
+holds-zeros l long zeros = record {
   holds = record {
     events = refl;
     law = record {
       few = omega arith;
       begun = omega arith;
-      long = length-replicate {A = ℕ} 100 0;
-      small = λ i. omega (arith, same-all {A = ℕ} 100 i 0);
-      free = λ i h b. same-all 100 (placeFrom 0 i) 0;
+      long = long;
+      small = λ i. omega (arith, zeros i);
+      free = λ i h b. zeros (placeFrom 0 i);
     };
   };
   begins = refl;
 }
+
+pub holds-none : HoldsAt (record { places = replicate 100 0; start = 0; count = 0 }) [] 0
+holds-none = holds-zeros (replicate 100 0) (length-replicate {A = ℕ} 100 0) (λ i. same-all 100 i 0)
 
 -- ---- one event more
 
@@ -275,7 +293,7 @@ moving-ends es s n l k b z m =
           begun = b;
           long = simp length-set (m .long);
           small = set-small l (placeFrom s (n - 1)) 0 16777216 (omega arith) (m .small);
-          free = λ i g c. go i (eqb i (n - 1)) refl g c;
+          free = freed l s (n - 1) inner (m .long) (λ i g c. m .free i (omega arith) c);
         };
       };
       begins = refl;
@@ -284,25 +302,40 @@ moving-ends es s n l k b z m =
     inner : n - 1 < most
     inner = omega (arith, m .inside, m .few)
 
-    go : (i : ℕ) (b : Bool) → eqb i (n - 1) ≡ b → n - 1 ≤ i → i < most → numberAt (set l (placeFrom s (n - 1)) 0) s i ≡ 0
-    go i true e g c = rw (eqb-true i (n - 1) e) (stored-there l s (n - 1) 0 inner (m .long))
-    go i false e g c =
-        stored-elsewhere l s (n - 1) 0 inner i c (eqb-false i (n - 1) e) ∙ m .free i (omega (arith, eqb-false i (n - 1) e)) c
+-- ---- every event less: the places in use are freed, from the newest on
+
+-- what the loop keeps: from k places after the start on all are free
+pub record Clearing (l : List ℕ) (s k : ℕ) : Type 0 where
+  pub long : length l ≡ most
+  pub free : (i : ℕ) → k ≤ i → i < most → numberAt l s i ≡ 0
+
+pub clearing-goes : (l : List ℕ) (s k : ℕ) → 0 < k → k ≤ most → Clearing l s k → Clearing (set l (placeFrom s (k - 1)) 0) s (k - 1)
+clearing-goes l s k pos h m = record {
+  long = simp length-set (m .long);
+  free = freed l s (k - 1) (omega arith) (m .long) (λ i g b. m .free i (omega arith) b);
+}
+
+pub clearing-ends : (l : List ℕ) (s k : ℕ) → s < most → k ≡ 0 → Clearing l s k → HoldsAt (record { places = l; start = 0; count = 0 }) [] 0
+clearing-ends l s k b z m =
+    holds-zeros l (m .long)
+    (λ j. split (ltb j most)
+    (λ p. let h : j < most = ltb-true j most p in
+    ap (λ (i : ℕ). getD l i 0) (sym (reached s j b h)) ∙ m .free ((j + most - s) % most) (omega arith) (omega arith))
+    (λ p. List·getD-eq-default l 0 (omega (arith, ltb-false j most p, m .long))))
 
 -- ---- a walk from the oldest; k events are not yet looked at
 
 module _ (q : Event → Bool) (l : List ℕ) (s n k : ℕ) (pos : 0 < k) (few : k ≤ n) where
-  next-one : eventsFrom l s (n - k) k ≡ eventIn (numberAt l s (n - 1 - (k - 1))) ∷ eventsFrom l s (n - (k - 1)) (k - 1)
+  next-one : eventsFrom l s (n - k) k ≡ eventIn (numberAt l s (n - k)) ∷ eventsFrom l s (n - (k - 1)) (k - 1)
   next-one =
       let a : k ≡ suc (k - 1) = omega arith in
-      let b : n - 1 - (k - 1) ≡ n - k = omega arith in
       let d : n - (k - 1) ≡ suc (n - k) = omega arith in
-      rw (b, d) (ap (eventsFrom l s (n - k)) a)
+      rw d (ap (eventsFrom l s (n - k)) a)
 
-  pub find-here : q (eventIn (numberAt l s (n - 1 - (k - 1)))) ≡ true → find q (eventsFrom l s (n - k) k) ≡ At (k - 1)
+  pub find-here : q (eventIn (numberAt l s (n - k))) ≡ true → find q (eventsFrom l s (n - k) k) ≡ At (k - 1)
   find-here t = ap (find q) next-one ∙ rw (t, len l s (n - (k - 1)) (k - 1))
 
-  pub find-past : q (eventIn (numberAt l s (n - 1 - (k - 1)))) ≡ false → find q (eventsFrom l s (n - k) k) ≡ find q (eventsFrom l s (n - (k - 1)) (k - 1))
+  pub find-past : q (eventIn (numberAt l s (n - k))) ≡ false → find q (eventsFrom l s (n - k) k) ≡ find q (eventsFrom l s (n - (k - 1)) (k - 1))
   find-past t = ap (find q) next-one ∙ rw t
 
 -- ---- from the number that a walk found to the event

@@ -11,9 +11,10 @@ use lib.Seq.{ext-getD}
 use borrow.Author.Tests.{ltb-true, ltb-false}
 use Rattle.queue.specs.declared.Event.{Event}
 use Rattle.queue.specs.declared.Queue.{Queue}
+use Rattle.queue.specs.declared.Stretch.{Stretch}
 use Rattle.queue.specs.Events.{most}
-use Rattle.queue.specs.Places.{eventIn, placeFrom, numberAt, eventsFrom, eventsOf, Lawful, HoldsAt}
-use Rattle.queue.proofs.Laws.{len}
+use Rattle.queue.specs.Places.{eventIn, placeFrom, numberAt, eventsFrom, eventsOf, queueOf, Lawful, HoldsAt}
+use Rattle.queue.proofs.Laws.{len, reached}
 
 -- 'It holds at most 100 events'
 pub at-most : (q : Queue) → Lawful q → length (eventsOf q) ≤ most
@@ -42,10 +43,6 @@ pub stands-at : (q : Queue) (j : ℕ) (d : Event) → j < q .count → getD (eve
 stands-at q j d h =
     let e : 0 + j ≡ j = omega arith in
     event-at (q .places) (q .start) 0 (q .count) j d h ∙ ap (λ (k : ℕ). eventIn (numberAt (q .places) (q .start) k)) e
-
--- every place lies some way after the start
-reached : (s i : ℕ) → s < most → i < most → placeFrom s ((i + most - s) % most) ≡ i
-reached s i b h = omega arith
 
 same-queue : (l m : List ℕ) (s t i j : ℕ) → l ≡ m → s ≡ t → i ≡ j
     → _≡_ {A = Queue} (record { places = l; start = s; count = i }) (record { places = m; start = t; count = j })
@@ -88,3 +85,12 @@ module _ (p q : Queue) (hp : Lawful p) (hq : Lawful q) (e : eventsOf p ≡ event
 -- so two calls that hand back a queue that holds these events in a ring that begins here hand back the same one
 pub one-queue : (p q : Queue) (es : List Event) (s : ℕ) → HoldsAt p es s → HoldsAt q es s → p ≡ q
 one-queue p q es s x y = determined p q (x .holds .law) (y .holds .law) (x .holds .events ∙ sym (y .holds .events)) (x .begins ∙ sym (y .begins))
+
+-- and two that change a lent array so leave the same numbers in it, and answer the same stretch
+pub one-lent : (l m : List ℕ) (s t : Stretch) (es : List Event) (start : ℕ) → HoldsAt (queueOf l s) es start → HoldsAt (queueOf m t) es start → (s ≡ t) × (l ≡ m)
+one-lent l m s t es start x y =
+    let e = one-queue (queueOf l s) (queueOf m t) es start x y in
+    (same-stretch (s .start) (t .start) (s .count) (t .count) (ap (λ (q : Queue). q .start) e) (ap (λ (q : Queue). q .count) e), ap (λ (q : Queue). q .places) e)
+  where
+    same-stretch : (a b i j : ℕ) → a ≡ b → i ≡ j → _≡_ {A = Stretch} (record { start = a; count = i }) (record { start = b; count = j })
+    same-stretch a b i j f g = cc

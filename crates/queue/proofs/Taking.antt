@@ -10,11 +10,12 @@ use borrow.Author.Tests.{eq-eqb, eqb-true}
 use lib.ListN.{length}
 use Rattle.lists.specs.Lists.{first, without, find, withoutAt}
 use Rattle.lists.specs.declared.Found.the-variants.{At}
-use Rattle.lists.proofs.Tests.{split, and-yes}
+use Rattle.lists.proofs.Tests.{split, differ, and-yes}
 use Rattle.lists.proofs.First.{first-yes}
 use Rattle.queue.specs.declared.Event.{Event}
 use Rattle.queue.specs.declared.Sought.the-variants.{One, Nothing}
-use Rattle.queue.specs.Events.{oldest, meets, likeOf, sought}
+use Rattle.queue.specs.declared.Search.{Search}
+use Rattle.queue.specs.Events.{oldest, byLocation, byType, byBoth, knownSearch, meets, likeOf, sought}
 use Rattle.queue.specs.Places.{placeFrom, startWithout}
 
 -- an event meets the search for its like, and only what is the same does
@@ -32,6 +33,14 @@ alike e x t =
 pub like-itself : (e : Event) → meets (likeOf e) e ≡ true
 unfolding meets
 like-itself e = rw (eq-eqb (e .kind) (e .kind) refl, eq-eqb (e .location) (e .location) refl)
+
+-- what meets a search meets a known one
+pub meets-known : (s : Search) (e : Event) → meets s e ≡ true → knownSearch (s .by) ≡ true
+unfolding meets knownSearch
+meets-known s e t =
+    split (eqb (s .by) byLocation) (λ a. rw (eqb-true (s .by) byLocation a))
+    (λ a. split (eqb (s .by) byType) (λ b. rw (eqb-true (s .by) byType b))
+    (λ b. split (eqb (s .by) byBoth) (λ c. rw (eqb-true (s .by) byBoth c)) (λ c. let z : false ≡ true = rw (a, b, c) at t in differ (cc))))
 
 module _ (q : Event → Bool) (e : Event) where
   -- taking the oldest of its like takes the oldest that met the search

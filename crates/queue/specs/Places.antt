@@ -7,6 +7,7 @@ use mathlib.Core.List.{List, [], _∷_}
 use lib.ListN.{length, getD}
 use Rattle.queue.specs.declared.Event.{Event}
 use Rattle.queue.specs.declared.Queue.{Queue}
+use Rattle.queue.specs.declared.Stretch.{Stretch}
 use Rattle.queue.specs.Events.{most, meets, likeOf}
 
 -- an event as one number: the type byte above the location
@@ -20,7 +21,7 @@ pub record Packs (e : Event) (x : ℕ) : Type 0 where
 
 -- ---- the ring
 
--- the place that lies so many places after a start; where 100 is passed, the places go on from 0
+-- the place that lies so many places after a start; where 100 is reached, the places go on from 0
 abbrev pub placeFrom : ℕ → ℕ → ℕ
 placeFrom start further = (start + further) % most
 
@@ -50,12 +51,20 @@ pub record Holds (q : Queue) (es : List Event) : Type 0 where
   pub events : eventsOf q ≡ es
   pub law : Lawful q
 
+-- a lent array, with the stretch of it that is in use
+abbrev pub queueOf : List ℕ → Stretch → Queue
+queueOf places s = record { places = places; start = s .start; count = s .count }
+
+abbrev pub eventsIn : List ℕ → Stretch → List Event
+eventsIn places s = eventsOf (queueOf places s)
+
 -- ---- where the ring begins
 
+-- the place of the oldest event; in an empty queue, of the next one that comes
 abbrev pub startOf : Queue → ℕ
 startOf q = q .start
 
--- once the oldest event of a type and location is taken: at the next place where it was the oldest of all, else where it began
+-- once the oldest event of a type and location is taken: at the next place if it was the oldest of all, else where it began
 abbrev pub startWithout : Event → List Event → ℕ → ℕ
 startWithout e [] start = start
 startWithout e (x ∷ es) start = cond (meets (likeOf e) x) (placeFrom start 1) start

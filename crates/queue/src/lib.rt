@@ -4,18 +4,17 @@
 // So taking the oldest frees its place and begins the ring at the next one: no event moves. Adding
 // writes one place. Only Find closes a gap, and then the younger events move.
 //
-// A queue goes in by value and comes back by value. What the functions promise speaks of the list
-// of events (`eventsOf`) and of where the ring then begins (`startOf`); how the events are kept is
-// said in specs/Places.antt, and nobody else has to know it.
+// A queue is a value. The functions work in place on its array, which the caller lends, so that no
+// call copies it. What they promise speaks of the list of events (`eventsIn`) and of where the ring
+// then begins; how the events are kept is said in specs/Places.antt, and nobody else has to know it.
 use lists::Found;
 ghost use mathlib.Core.Path.{_≡_};
 ghost use mathlib.Core.List.{[]};
 ghost use Prim.Native.Nat.{_-_, _≤_, _<_};
 ghost use lib.Dec.{ltb};
-ghost use lib.ListN.{length};
 ghost use Rattle.lists.specs.Lists.{first, find, without, withoutAt};
 ghost use Rattle.queue.specs.Events.{most, oldest, added, knownSearch, meets, likeOf, sought};
-ghost use Rattle.queue.specs.Places.{Packs, eventIn, placeFrom, eventsOf, Lawful, startOf, startWithout, HoldsAt};
+ghost use Rattle.queue.specs.Places.{Packs, eventIn, placeFrom, queueOf, eventsIn, Lawful, startWithout, HoldsAt};
 
 // A type byte and the address where it happened.
 pub struct Event {
@@ -25,9 +24,15 @@ pub struct Event {
 
 // At most 100 events, oldest first from the ring's start on; each is packed into a number.
 pub struct Queue {
-    places: [u32; 100],
-    start: usize,
-    count: usize,
+    pub places: [u32; 100],
+    pub start: usize,
+    pub count: usize,
+}
+
+// Which places of the ring hold events: from its start on, so many.
+pub struct Stretch {
+    pub start: usize,
+    pub count: usize,
 }
 
 // What a search is by (Search Type Coding), and what it is for.
@@ -115,127 +120,144 @@ pub fn fresh() -> Queue
     }
 }
 
-impl Queue {
-    // Whether one event more can be held.
-    pub fn has_room(self) -> bool
-        requires { ⌜ Lawful self ⌝ }
-        ensures { λ r. ⌜ r ≡ ltb (length (eventsOf self)) most ⌝ }
-    {
-        self.count < 100
-    }
+// ---- what is held
 
-    pub fn oldest(self) -> Sought
-        requires { ⌜ Lawful self ⌝ }
-        ensures { λ r. ⌜ r ≡ sought (oldest (eventsOf self)) ⌝ }
-    {
-        if self.count == 0 {
-            return Sought::Nothing;
+// Whether one event more can be held.
+pub fn has_room(stretch: Stretch) -> bool
+    ensures { λ r. ⌜ r ≡ ltb (stretch .count) most ⌝ }
+{
+    stretch.count < 100
+}
+
+pub fn oldest(places: &[u32; 100], stretch: Stretch) -> Sought
+    requires { ⌜ Lawful (queueOf (now places) stretch) ⌝ }
+    ensures { λ r. ⌜ r ≡ sought (oldest (eventsIn (now (places .entry)) stretch)) ⌝ }
+{
+    if stretch.count == 0 {
+        return Sought::Nothing;
+    }
+    let start = stretch.start;
+    Sought::One(unpack(places[start]))
+}
+
+// The number of the oldest event that meets a search: how many are newer than it.
+fn find(places: &[u32; 100], stretch: Stretch, search: Search) -> Found
+    requires { ⌜ Lawful (queueOf (now places) stretch) ⌝ }
+    ensures { λ r. ⌜ r ≡ find (meets search) (eventsIn (now (places .entry)) stretch) ⌝ }
+{
+    let mut newer = stretch.count;
+    let mut place = stretch.start;
+    while 0 < newer {
+        newer -= 1;
+        if is_met(search, unpack(places[place])) {
+            return Found::At(newer);
         }
-        let start = self.start;
-        Sought::One(unpack(self.places[start]))
+        place = place_from(place, 1);
     }
+    Found::Nothing
+}
 
-    // The number of the oldest event that meets a search: how many are newer than it.
-    fn find(self, search: Search) -> Found
-        requires { ⌜ Lawful self ⌝ }
-        ensures { λ r. ⌜ r ≡ find (meets search) (eventsOf self) ⌝ }
-    {
-        let n = self.count;
-        let mut newer = n;
-        while 0 < newer {
-            newer -= 1;
-            let place = place_from(self.start, n - 1 - newer);
-            if is_met(search, unpack(self.places[place])) {
-                return Found::At(newer);
-            }
-        }
-        Found::Nothing
-    }
-
-    // The oldest event that meets a search.
-    pub fn oldest_met(self, search: Search) -> Sought
-        requires { ⌜ Lawful self ⌝ }
-        ensures { λ r. ⌜ r ≡ sought (first (meets search) (eventsOf self)) ⌝ }
-    {
-        match self.find(search) {
-            Found::Nothing => Sought::Nothing,
-            Found::At(newer) => {
-                let place = place_from(self.start, self.count - 1 - newer);
-                Sought::One(unpack(self.places[place]))
-            }
-        }
-    }
-
-    // One event more, where there is room; a full queue stays as it is.
-    pub fn with(self, event: Event) -> Queue
-        requires { ⌜ Lawful self ⌝ }
-        ensures { λ r. ⌜ HoldsAt r (added event (eventsOf self)) (startOf self) ⌝ }
-    {
-        let mut next = self;
-        let n = self.count;
-        if 100 <= n {
-            return next;
-        }
-        let place = place_from(self.start, n);
-        next.places[place] = pack(event);
-        next.count = n + 1;
-        next
-    }
-
-    // The queue without its oldest event: one place is freed, and the ring begins at the next one.
-    fn without_oldest(self) -> Queue
-        requires { ⌜ Lawful self ⌝ }
-        requires { ⌜ 0 < self .count ⌝ }
-        ensures { λ r. ⌜ HoldsAt r (withoutAt (self .count - 1) (eventsOf self)) (placeFrom (startOf self) 1) ⌝ }
-    {
-        let mut next = self;
-        let start = self.start;
-        next.places[start] = 0;
-        next.start = place_from(start, 1);
-        next.count = self.count - 1;
-        next
-    }
-
-    // The queue without the event that has this many newer ones; those move down, and the last place is freed.
-    fn without(self, newer: usize) -> Queue
-        requires { ⌜ Lawful self ⌝ }
-        requires { ⌜ newer < self .count ⌝ }
-        ensures { λ r. ⌜ HoldsAt r (withoutAt newer (eventsOf self)) (startOf self) ⌝ }
-    {
-        let mut next = self;
-        let n = self.count;
-        let mut left = newer;
-        while 0 < left {
-            let gap = place_from(self.start, n - 1 - left);
-            let younger = place_from(self.start, n - left);
-            next.places[gap] = next.places[younger];
-            left -= 1;
-        }
-        let last = place_from(self.start, n - 1);
-        next.places[last] = 0;
-        next.count = n - 1;
-        next
-    }
-
-    // The queue without the oldest event of this type and location. Where that is the oldest of all,
-    // as in Get, nothing is searched and no event moves.
-    pub fn taken(self, event: Event) -> Queue
-        requires { ⌜ Lawful self ⌝ }
-        ensures { λ r. ⌜ HoldsAt r (without (meets (likeOf event)) (eventsOf self)) (startWithout event (eventsOf self) (startOf self)) ⌝ }
-    {
-        let search = Search {
-            by: BY_BOTH,
-            wanted: event,
-        };
-        let Sought::One(oldest) = self.oldest() else {
-            return self;
-        };
-        if is_met(search, oldest) {
-            return self.without_oldest();
-        }
-        match self.find(search) {
-            Found::Nothing => self,
-            Found::At(newer) => self.without(newer),
+// The oldest event that meets a search.
+pub fn oldest_met(places: &[u32; 100], stretch: Stretch, search: Search) -> Sought
+    requires { ⌜ Lawful (queueOf (now places) stretch) ⌝ }
+    ensures { λ r. ⌜ r ≡ sought (first (meets search) (eventsIn (now (places .entry)) stretch)) ⌝ }
+{
+    match find(places, stretch, search) {
+        Found::Nothing => Sought::Nothing,
+        Found::At(newer) => {
+            let place = place_from(stretch.start, stretch.count - 1 - newer);
+            Sought::One(unpack(places[place]))
         }
     }
+}
+
+// ---- changes, each with the next stretch
+
+// One event more, where there is room; a full queue stays as it is.
+pub fn add(places: &mut [u32; 100], stretch: Stretch, event: Event) -> Stretch
+    requires { ⌜ Lawful (queueOf (now places) stretch) ⌝ }
+    ensures { λ r. ⌜ HoldsAt (queueOf (now (places .exit)) r) (added event (eventsIn (now (places .entry)) stretch)) (stretch .start) ⌝ }
+{
+    let n = stretch.count;
+    if 100 <= n {
+        return stretch;
+    }
+    let place = place_from(stretch.start, n);
+    places[place] = pack(event);
+    Stretch {
+        start: stretch.start,
+        count: n + 1,
+    }
+}
+
+// The oldest event goes: one place is freed, and the ring begins at the next one. No event moves.
+fn drop_oldest(places: &mut [u32; 100], stretch: Stretch) -> Stretch
+    requires { ⌜ Lawful (queueOf (now places) stretch) ⌝ }
+    requires { ⌜ 0 < stretch .count ⌝ }
+    ensures { λ r. ⌜ HoldsAt (queueOf (now (places .exit)) r) (withoutAt (stretch .count - 1) (eventsIn (now (places .entry)) stretch)) (placeFrom (stretch .start) 1) ⌝ }
+{
+    let start = stretch.start;
+    places[start] = 0;
+    Stretch {
+        start: place_from(start, 1),
+        count: stretch.count - 1,
+    }
+}
+
+// The event goes that has this many newer ones; those move down, and the last place is freed.
+fn close_gap(places: &mut [u32; 100], stretch: Stretch, newer: usize) -> Stretch
+    requires { ⌜ Lawful (queueOf (now places) stretch) ⌝ }
+    requires { ⌜ newer < stretch .count ⌝ }
+    ensures { λ r. ⌜ HoldsAt (queueOf (now (places .exit)) r) (withoutAt newer (eventsIn (now (places .entry)) stretch)) (stretch .start) ⌝ }
+{
+    let n = stretch.count;
+    let mut gap = place_from(stretch.start, n - 1 - newer);
+    let mut left = newer;
+    while 0 < left {
+        let behind = place_from(gap, 1);
+        places[gap] = places[behind];
+        gap = behind;
+        left -= 1;
+    }
+    places[gap] = 0;
+    Stretch {
+        start: stretch.start,
+        count: n - 1,
+    }
+}
+
+// The oldest event of this type and location goes. Where that is the oldest of all, as in Get,
+// nothing is searched and no event moves.
+pub fn take(places: &mut [u32; 100], stretch: Stretch, event: Event) -> Stretch
+    requires { ⌜ Lawful (queueOf (now places) stretch) ⌝ }
+    ensures { λ r. ⌜ HoldsAt (queueOf (now (places .exit)) r) (without (meets (likeOf event)) (eventsIn (now (places .entry)) stretch)) (startWithout event (eventsIn (now (places .entry)) stretch) (stretch .start)) ⌝ }
+{
+    let search = Search {
+        by: BY_BOTH,
+        wanted: event,
+    };
+    let Sought::One(first) = oldest(places, stretch) else {
+        return stretch;
+    };
+    if is_met(search, first) {
+        return drop_oldest(places, stretch);
+    }
+    match find(places, stretch, search) {
+        Found::Nothing => stretch,
+        Found::At(newer) => close_gap(places, stretch, newer),
+    }
+}
+
+// All events go, from the newest on, and the ring begins at place 0.
+pub fn clear(places: &mut [u32; 100], stretch: Stretch) -> Stretch
+    requires { ⌜ Lawful (queueOf (now places) stretch) ⌝ }
+    ensures { λ r. ⌜ HoldsAt (queueOf (now (places .exit)) r) [] 0 ⌝ }
+{
+    let mut left = stretch.count;
+    while 0 < left {
+        left -= 1;
+        let place = place_from(stretch.start, left);
+        places[place] = 0;
+    }
+    Stretch { start: 0, count: 0 }
 }

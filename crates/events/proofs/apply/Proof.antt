@@ -8,7 +8,7 @@ use Rattle.events.proofs.apply.Tie as tie
 
 returns : tie.Need-returns
 unfolding apply startAfter
-returns c = rw (c .before .before .outcome .given .1) (c .with .ensures)
+returns c = rw (c .before .before .before .outcome .given .1) (c .add .ensures)
 
 returns-2 : tie.Need-returns-2
 unfolding apply startAfter
@@ -16,11 +16,11 @@ returns-2 c = rw (c .enum-told .given .1) (record { holds = record { events = re
 
 returns-3 : tie.Need-returns-3
 unfolding apply startAfter
-returns-3 c = rw (c .before .before .outcome2 .given .1) (c .taken .ensures)
+returns-3 c = rw (c .before .before .before .outcome2 .given .1) (c .take .ensures)
 
 returns-4 : tie.Need-returns-4
 unfolding apply startAfter
-returns-4 c = rw (c .before .enum-told2 .given .1) (c .fresh .ensures)
+returns-4 c = rw (c .before .before .enum-told2 .given .1) (c .clear .ensures)
 
 returns-5 : tie.Need-returns-5
 unfolding apply startAfter

@@ -1,6 +1,7 @@
 -- `events::judge` meets its contract: an arm for each command. Assumes nothing.
 use mathlib.Core.Path.{sym, _∙_}
-use Rattle.queue.specs.Places.{eventsOf}
+use Rattle.queue.specs.Places.{eventsIn}
+use Rattle.queue.proofs.Laws.{len}
 use Rattle.events.specs.Events.{judge}
 use Rattle.events.proofs.Judging.{none-empty, one-filled}
 use borrow.Author.Needs.{needs}
@@ -9,11 +10,17 @@ use Rattle.events.proofs.judge.Tie as tie
 
 returns : tie.Need-returns
 unfolding judge
-returns c = rw (c .before .before .before .command .given .1, sym (c .before .has-room .ensures) ∙ c .if1 .taken)
+returns c =
+    let k = c .before .before .before in
+    let a = k .before .before .args in
+    rw (k .command .given .1, len (a .places .now) (a .stretch .start) 0 (a .stretch .count), sym (c .before .has-room .ensures) ∙ c .if1 .taken)
 
 returns-2 : tie.Need-returns-2
 unfolding judge
-returns-2 c = rw (c .before .before .before .command .given .1, sym (c .before .has-room .ensures) ∙ c .if1 .left)
+returns-2 c =
+    let k = c .before .before .before in
+    let a = k .before .before .args in
+    rw (k .command .given .1, len (a .places .now) (a .stretch .start) 0 (a .stretch .count), sym (c .before .has-room .ensures) ∙ c .if1 .left)
 
 returns-3 : tie.Need-returns-3
 unfolding judge
@@ -30,13 +37,15 @@ returns-6 : tie.Need-returns-6
 unfolding judge
 returns-6 c =
     let o = c .before .before in
-    rw (o .before .enum-told3 .given .1, none-empty (eventsOf (o .before .before .before .args .queue)) (sym (o .oldest2 .ensures) ∙ c .enum-told4 .given .1))
+    let s = o .before .before .before in
+    rw (o .before .enum-told3 .given .1, none-empty (eventsIn (s .args .places .now) (s .args .stretch)) (sym (o .oldest2 .ensures) ∙ c .enum-told4 .given .1))
 
 returns-7 : tie.Need-returns-7
 unfolding judge
 returns-7 c =
     let o = c .before .before in
-    rw (o .before .enum-told3 .given .1, one-filled (eventsOf (o .before .before .before .args .queue)) _ (sym (o .oldest2 .ensures) ∙ c .enum-told5 .given .1))
+    let s = o .before .before .before in
+    rw (o .before .enum-told3 .given .1, one-filled (eventsIn (s .args .places .now) (s .args .stretch)) _ (sym (o .oldest2 .ensures) ∙ c .enum-told5 .given .1))
 
 returns-8 : tie.Need-returns-8
 unfolding judge

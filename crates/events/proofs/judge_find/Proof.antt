@@ -2,7 +2,7 @@
 use mathlib.Core.Path.{_≡_, sym, _∙_}
 use mathlib.Core.Bool.{true}
 use Rattle.queue.specs.Events.{knownSearch}
-use Rattle.queue.specs.Places.{eventsOf}
+use Rattle.queue.specs.Places.{eventsIn}
 use Rattle.events.specs.Events.{judge}
 use Rattle.events.proofs.Judging.{none-empty, one-filled}
 use borrow.Author.Needs.{needs}
@@ -19,13 +19,16 @@ returns c = rw (sym (c .before .is-known-search .ensures) ∙ not-true _ (c .if1
 
 returns-2 : tie.Need-returns-2
 unfolding judge
-returns-2 c = rw (known (c .before .before .before), none-empty (eventsOf (c .before .before .before .before .before .args .queue)) (sym (c .before .before .oldest .ensures) ∙ c .enum-told .given .1))
+returns-2 c =
+    let s = c .before .before .before .before .before in
+    rw (known (c .before .before .before), none-empty (eventsIn (s .args .places .now) (s .args .stretch)) (sym (c .before .before .oldest .ensures) ∙ c .enum-told .given .1))
 
 returns-3 : tie.Need-returns-3
 unfolding judge
 returns-3 c =
     let o = c .before .before .before .before in
-    rw (known (o .before), one-filled (eventsOf (o .before .before .before .args .queue)) _ (sym (o .oldest .ensures) ∙ c .before .before .enum-told2 .given .1), ← c .before .oldest-met .ensures) (c .taken-or .ensures)
+    let s = o .before .before .before in
+    rw (known (o .before), one-filled (eventsIn (s .args .places .now) (s .args .stretch)) _ (sym (o .oldest .ensures) ∙ c .before .before .enum-told2 .given .1), ← c .before .oldest-met .ensures) (c .taken-or .ensures)
 
 pub judge-find-spec : {M : Type 1} → statement M
 judge-find-spec =

@@ -1,14 +1,14 @@
--- `queue::Queue::oldest` meets its contract: the oldest event stands where the ring begins. Assumes nothing.
+-- `queue::oldest` meets its contract: the oldest event stands where the ring begins. Assumes nothing.
 use mathlib.Core.Path.{sym, ap}
 use Rattle.queue.specs.Events.{sought}
 use Rattle.queue.proofs.Laws.{oldest-there}
 use borrow.Author.Needs.{needs}
-use Rattle.queue.proofs.Queue.oldest.Statement.{statement}
-use Rattle.queue.proofs.Queue.oldest.Tie as tie
+use Rattle.queue.proofs.oldest.Statement.{statement}
+use Rattle.queue.proofs.oldest.Tie as tie
 
 returns-2 : tie.Need-returns-2
 returns-2 c =
-    let s = c .before .before .before in
+    let s = c .before .before .before .before in
     rw (c .unpack .ensures) (ap sought (sym (oldest-there _ _ _ (s .pre .begun) (c .before .before .if1 .left))))
 
 pub oldest-spec : {M : Type 1} → statement M

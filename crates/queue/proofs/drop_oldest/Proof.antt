@@ -1,0 +1,14 @@
+-- `queue::drop_oldest` meets its contract: the ring begins one place later, and no other number changes. Assumes nothing.
+use Rattle.queue.specs.Places.{queueOf}
+use Rattle.queue.proofs.Laws.{holds-rest}
+use borrow.Author.Needs.{needs}
+use Rattle.queue.proofs.drop_oldest.Statement.{statement}
+use Rattle.queue.proofs.drop_oldest.Tie as tie
+
+returns : tie.Need-returns
+returns c =
+    let s = c .before .before in
+    rw (c .before .place-from .ensures) (holds-rest (queueOf (s .args .places .now) (s .args .stretch)) (s .pre .0) (s .pre .1))
+
+pub drop-oldest-spec : {M : Type 1} → statement M
+drop-oldest-spec = tie.close (tie.spec (λ c. search needs) (λ c. search needs) (λ c κs. search needs) (λ c. search needs) returns)
