@@ -67,7 +67,7 @@ module _ (q : Queue) (w : Lawful q) (s before after : List ℕ) (h : Handled)
   unfolding apply startAfter
   oldest-taken-still e j o i d = oldest-still q (h .next) w e o (came (Taken e) j) i d
 
-  -- after a Get every number of the array but one is as it was; a Get that finds none changes nothing
+  -- after a Get every number of the array but one is as it was, also where it finds none
   pub get-still : commandOf (head .kind) (partOf s) ≡ Get → (i : ℕ) → (i ≡ startOf q → ⊥) → getD (h .next .places) i 0 ≡ getD (q .places) i 0
   unfolding judge apply startAfter
   get-still g i d = go (eventsOf q) refl

@@ -65,7 +65,7 @@ module _ (q r : Queue) (w : Lawful q) (e : Event) (k : HoldsAt r (added e (event
           ∙ getD-append-add (eventsOf q) (e ∷ []) 0 e;
     }
 
-  -- one place is written, the first free one: every other number is as it was
+  -- at most one place is written, the one after the newest: every other number is as it was
   pub added-still : (i : ℕ) → (i ≡ placeFrom (startOf q) (q .count) → ⊥) → getD (r .places) i 0 ≡ getD (q .places) i 0
   added-still i d =
       split (ltb (q .count) most)

@@ -5,8 +5,9 @@
 // writes one place. Only Find closes a gap, and then the younger events move.
 //
 // A queue is a value. The functions work in place on its array, which the caller lends, so that no
-// call copies it. What they promise speaks of the list of events (`eventsIn`) and of where the ring
-// then begins; how the events are kept is said in specs/Places.antt, and nobody else has to know it.
+// call copies it; the caller keeps the stretch that they hand back. What they promise speaks of the
+// list of events (`eventsIn`) and of where the ring then begins. How an event is packed, and at
+// which place it stands, is said in specs/Places.antt, and nobody else has to know it.
 use lists::Found;
 ghost use mathlib.Core.Path.{_≡_};
 ghost use mathlib.Core.List.{[]};
