@@ -24,8 +24,9 @@ use Rattle.events.specs.declared.Command.the-variants.{Get, Find}
 use Rattle.events.specs.declared.Outcome.{Outcome}
 use Rattle.events.specs.declared.Outcome.the-variants.{Added, Taken, Coded}
 use Rattle.events.specs.declared.Handled.{Handled}
-use Rattle.events.specs.Events.{isEmpty, checked, commandOf, takenOr, judge, apply, handled}
+use Rattle.events.specs.Events.{checked, commandOf, takenOr, judge, apply, handled}
 use Rattle.events.specs.Ring.{startAfter, startHandled, HandlingAt}
+use Rattle.events.proofs.Judging.{one-filled}
 
 -- ---- where the ring begins
 
@@ -83,11 +84,7 @@ module _ (q : Queue) (w : Lawful q) (s before after : List ℕ) (h : Handled)
   unfolding judge
   find-still search e g f o i d =
       let t = meets-known search e (first-yes (meets search) (eventsOf q) e f) in
-      oldest-taken-still e (rw (g, t, filled (eventsOf q) o, f)) o i d
-    where
-      filled : (es : List Event) → oldest es ≡ some e → isEmpty es ≡ false
-      filled [] z = differ (cc)
-      filled (x ∷ es) z = refl
+      oldest-taken-still e (rw (g, t, one-filled (eventsOf q) e (ap sought o), f)) o i d
 
   -- after an Add every number but that of the place after the newest is as it was
   pub add-still : (e : Event) → judge (eventsOf q) (commandOf (head .kind) (partOf s)) ≡ Added e
