@@ -29,12 +29,13 @@ use Rattle.cutter.specs.Said.{saidStart, saidCut}
 
 -- ---- the start
 module _ (s : List ℕ) where
-  -- 1, 2, 3, 15, 5, 6, in this order; else the response's thread
+  -- 1, 2, 3, 19, 15, 5, 6, in this order; else the response's thread
   pub said-start : saidStart (startOf s)
       ≡ checks
       ((ltb (length s) 8, refused 1)
       ∷ (ltb 1024 (wordAt s 6), refused 2)
-      ∷ (not (eqb (length s) (8 + wordAt s 6)), refused 3)
+      ∷ (ltb (length s) (8 + wordAt s 6), refused 3)
+      ∷ (ltb (8 + wordAt s 6) (length s), refused 19)
       ∷ (not (eqb (getD s 4 0) 0xFF), refused 15)
       ∷ (ltb 7 (getD s 5 0), refused 5)
       ∷ (ltb (wordAt s 6) 2, refused 6)

@@ -25,7 +25,7 @@ use Rattle.cutter.specs.declared.First.{First}
 
 -- ---- the start
 
--- 'Checks at the start: 1, 2, 3, type not 'FF' (15), 5, 6'; the reader makes the first three
+-- 'Checks at the start: 1, 2, 3, type not 'FF' (15), 5, 6'; the reader makes the first three, and has 19 at the place of 3 (request 04)
 abbrev pub startChecks : Head → List (Bool × Start)
 startChecks h =
     (not (eqb (h .kind) response), NotReady NotThisPartsMessage)

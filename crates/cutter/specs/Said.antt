@@ -7,7 +7,7 @@ use Rattle.cutter.specs.declared.Start.the-variants.{Ready, Refused as N
 use Rattle.cutter.specs.declared.Cut.{Cut}
 use Rattle.cutter.specs.declared.Cut.the-variants.{Command, Done, Refused}
 
--- the response's thread; or 1, 2, 3, 15, 5, 6
+-- the response's thread; or 1, 2, 3, 19, 15, 5, 6
 abbrev pub saidStart : Start → Said
 saidStart (Ready thread) = says cutting (thread ∷ [])
 saidStart (NotReady r) = refused (numberOf r)

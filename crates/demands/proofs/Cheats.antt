@@ -135,7 +135,7 @@ input n =
 
 record Printed : Type 0 where
   pub one-passed : prescribed (input 1) ≡ ascii "1 passed 0001\n" ∷ ascii "totals 1 0 0 1 0\n" ∷ []
-  pub one-refused : prescribed (input 0) ≡ ascii "1 refused 3\n" ∷ ascii "totals 0 0 0 0 0\n" ∷ []
+  pub one-refused : prescribed (input 0) ≡ ascii "1 refused 19\n" ∷ ascii "totals 0 0 0 0 0\n" ∷ []
 
 printed : Printed
 unfolding runOf lineWith fileOf rowOf stepOf shaped judgeTable categoryOf subAddressOf handlerOf multi common own readOf partOf codeOf busy judgeCommand judgeKind judgeRead judgeMessage decimalOf wordOf textOf

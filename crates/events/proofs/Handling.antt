@@ -53,13 +53,14 @@ module _ (q : Queue) (message before : List ℕ) where
     begins = rw (e, ← k) (w .begins);
   }
 
--- 9, 1, 2, 3, 15, in this order; else what the command comes to
+-- 9, 1, 2, 3, 19, 15, in this order; else what the command comes to
 pub said-answer : (es : List Event) (s reply : List ℕ) → saidAnswer (handled es s reply .answer)
     ≡ checks
     ((ltb (length reply) 13, refused 9)
     ∷ (ltb (length s) 8, refused 1)
     ∷ (ltb 1024 (wordAt s 6), refused 2)
-    ∷ (not (eqb (length s) (8 + wordAt s 6)), refused 3)
+    ∷ (ltb (length s) (8 + wordAt s 6), refused 3)
+    ∷ (ltb (8 + wordAt s 6) (length s), refused 19)
     ∷ (not (eqb (handlerOf (wordAt s 0)) 0x0700) || eqb (getD s 4 0) 0xFF, refused 15)
     ∷ [])
     (saidAnswer (answerOf (carried (judge es (commandOf (getD s 4 0) (partOf s))))))

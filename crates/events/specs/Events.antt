@@ -39,7 +39,7 @@ use Rattle.events.specs.declared.Handled.{Handled}
 unfoldable pub elsewhere : Head → Bool
 elsewhere h = not (eqb (handlerOf (h .destination)) eventHandler) || eqb (h .kind) response
 
--- 'then 1, 2, 3, then destination handler not '0700' or type 'FF' (15)'
+-- 'then 1, 2, 3, then destination handler not '0700' or type 'FF' (15)'; the reader has 19 at the place of 3 (request 04)
 abbrev pub meantChecks : Head → List (Bool × Checked)
 meantChecks h = (elsewhere h, Failed NotThisPartsMessage) ∷ []
 

@@ -1,4 +1,4 @@
--- Every way of cutting a message into pieces joins to the same message.
+-- Every way of cutting a message into pieces joins to the same message, or is refused alike.
 use Prim.Native.Nat.{ℕ, _+_, _*_, _-_, _≤_}
 use mathlib.Core.Path.{_≡_, refl, sym, ap, _∙_}
 use mathlib.Core.Bool.{true, false}
@@ -11,15 +11,16 @@ use Rattle.lists.specs.Lists.{All, onto}
 use Rattle.lists.proofs.Onto.{onto-length, onto-over}
 use Rattle.tapa.specs.Numbers.{twoBytes}
 use Rattle.tapa.specs.Codes.{response, successful}
+use Rattle.tapa.specs.declared.Refusal.{Refusal}
 use Rattle.message.specs.Message.{headBytes, messageOf}
 use Rattle.joiner.specs.declared.Joiner.{Joiner}
 use Rattle.joiner.specs.declared.Taking.the-variants.{NotLast, Last}
 use Rattle.joiner.specs.declared.Whole.{Whole}
-use Rattle.joiner.specs.declared.Whole.the-variants.{Plain, Response}
+use Rattle.joiner.specs.declared.Whole.the-variants.{Plain, Response, Refused as NotWhole}
 use Rattle.joiner.specs.declared.Answer.{Answer}
-use Rattle.joiner.specs.declared.Answer.the-variants.{More, Message}
+use Rattle.joiner.specs.declared.Answer.the-variants.{More, Message, Refused}
 use Rattle.joiner.specs.Joining.{counting, statusOf, dataOf, takingOf, joinedWith, wholeOf, completed, wholeAnswer, wholeBytes, answerOf, nextOf, bufferOf, partFor}
-use Rattle.joiner.specs.Sending.{together, sent, Small, responseSent, answersBy, joinerBy, bufferBy, Delivers}
+use Rattle.joiner.specs.Sending.{together, sent, Small, responseSent, answersBy, joinerBy, bufferBy, Delivers, Drops}
 use Rattle.joiner.proofs.Laws.{takes-last, takes-more, whole-longer, whole-plain, whole-response}
 
 -- ---- a piece is its data and its status
@@ -149,12 +150,16 @@ by-pieces (e ∷ ds) j d b small smalls fits room =
 
 -- ---- the theorem
 module _ (j : Joiner) (first : List ℕ) (rest : List (List ℕ)) (b : List ℕ) (idle : j .joined ≡ 0) (small : Small first) (smalls : All Small rest) (room : 1032 ≤ length b) where
+  at-once : (m : List ℕ) → together first rest ≡ m → length m ≤ 1032 → AtOnce j first rest b m
+  at-once m em few =
+      let n : length (together first rest) ≡ length m = ap length em in
+      let start : take (j .joined) b ++ together first rest ≡ m = ap (λ (k : ℕ). take k b ++ together first rest) idle ∙ em in
+      rw start at (by-pieces rest j first b small smalls (omega arith) room)
+
   delivers : (w : Whole) (m message : List ℕ) → together first rest ≡ m → length m ≤ 1032 → length message ≤ 1032 → wholeOf j m ≡ w
       → wholeAnswer w m ≡ Message (length message) → wholeBytes w m ≡ message → Delivers j first rest message b
   delivers w m message em few fit ew ea eb =
-      let n : length (together first rest) ≡ length m = ap length em in
-      let start : take (j .joined) b ++ together first rest ≡ m = ap (λ (k : ℕ). take k b ++ together first rest) idle ∙ em in
-      let h : AtOnce j first rest b m = rw start at (by-pieces rest j first b small smalls (omega arith) room) in
+      let h : AtOnce j first rest b m = at-once m em few in
       let answer : wholeAnswer (wholeOf j m) m ≡ Message (length message) = ap (λ (v : Whole). wholeAnswer v m) ew ∙ ea in
       let bytes : wholeBytes (wholeOf j m) m ≡ message = ap (λ (v : Whole). wholeBytes v m) ew ∙ eb in
       let held : bufferBy j (sent first rest) b ≡ onto message b = h .buffer ∙ ap (λ (y : List ℕ). onto y b) bytes in
@@ -163,6 +168,16 @@ module _ (j : Joiner) (first : List ℕ) (rest : List (List ℕ)) (b : List ℕ)
         next = h .next;
         buffer = held;
         part = ap (partFor (Message (length message))) held ∙ rw (le-leb (length message) (length (onto message b)) (omega arith)) (take-append-seam message (drop (length message) b));
+      }
+
+  -- a whole that is refused
+  pub drops : (r : Refusal) → length (together first rest) ≤ 1032 → wholeOf j (together first rest) ≡ NotWhole r → Drops j first rest r b
+  drops r few e =
+      let m : List ℕ = together first rest in
+      let h : AtOnce j first rest b m = at-once m refl few in record {
+        answers = h .answers ∙ ap (λ (w : Whole). replicate (length rest) More ++ (wholeAnswer w m ∷ [])) e;
+        next = h .next;
+        buffer = h .buffer ∙ ap (λ (w : Whole). onto (wholeBytes w m) b) e;
       }
 
   -- a message that is no response arrives as it is

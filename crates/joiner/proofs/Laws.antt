@@ -9,7 +9,7 @@ use native.Mathlib.Omega.{arith}
 use lib.Dec.{eqb, ltb}
 use lib.ListN.{length, take, drop, getD, set, length-append, length-take, length-drop, take-append-drop}
 use lib.Seq.{length-take-le, sets-eq, drop-append-le, take-at}
-use borrow.Author.Tests.{lt-ltb, le-ltb, le-leb, lt-leb, eq-eqb, ne-eqb, ltb-false, eqb-true}
+use borrow.Author.Tests.{lt-ltb, le-ltb, le-leb, lt-leb, eq-eqb, ne-eqb, ltb-false}
 use borrow.Rule.Slice.PartMut.{putMid}
 use Rattle.lists.specs.Lists.{checks, onto}
 use Rattle.lists.proofs.Onto.{onto-then, onto-stores, own-start, onto-over, prefix}
@@ -17,7 +17,7 @@ use Rattle.lists.proofs.Tests.{checks-said}
 use Rattle.tapa.specs.Numbers.{wordAt, twoBytes}
 use Rattle.tapa.specs.Said.{refused, says, written, getNext, joined as hands-on, kept}
 use Rattle.tapa.specs.declared.Refusal.{Refusal}
-use Rattle.tapa.specs.declared.Refusal.the-variants.{TooShort, TooLong, SizeDisagrees, ThreadAbove7, BufferTooSmall, NoSourceKept, StatusNotUsable}
+use Rattle.tapa.specs.declared.Refusal.the-variants.{TooShort, TooLong, FewerThanAnnounced, ThreadAbove7, BufferTooSmall, NoSourceKept, StatusNotUsable, MoreThanAnnounced}
 use Rattle.message.specs.Message.{headOf}
 use Rattle.message.specs.Said.{saidWriting}
 use Rattle.message.specs.declared.Reading.{Reading}
@@ -125,13 +125,23 @@ module _ (j : Joiner) (m : List ℕ) where
   module _ (a : 8 ≤ length m) (t : getD m 5 0 ≤ 7) (l : wordAt m 6 ≤ 1024) where
     pub whole-plain : (getD m 4 0 ≡ 255 → ⊥) → wordAt m 6 ≡ length m - 8 → wholeOf j m ≡ Plain
     unfolding wholeOf
-    whole-plain k u = rw (le-ltb (length m) 8 a, le-ltb 7 (getD m 5 0) t, le-ltb 1024 (wordAt m 6) l, ne-eqb (getD m 4 0) 255 k, eq-eqb (wordAt m 6) (length m - 8) u)
+    whole-plain k u =
+        rw (le-ltb (length m) 8 a, le-ltb 7 (getD m 5 0) t, le-ltb 1024 (wordAt m 6) l, ne-eqb (getD m 4 0) 255 k, le-ltb (length m - 8) (wordAt m 6) (omega arith), le-ltb (wordAt m 6) (length m - 8) (omega arith))
 
     pub whole-response : getD m 4 0 ≡ 255 → wordAt m 6 ≡ length m - 8 + 2 → getD (j .kept) (getD m 5 0) false ≡ true
         → wholeOf j m ≡ Response (getD (j .sources) (getD m 5 0) 0)
     unfolding wholeOf
     whole-response k u f =
-        rw (le-ltb (length m) 8 a, le-ltb 7 (getD m 5 0) t, le-ltb 1024 (wordAt m 6) l, eq-eqb (getD m 4 0) 255 k, eq-eqb (wordAt m 6) (length m - 8 + 2) u, f)
+        rw (le-ltb (length m) 8 a, le-ltb 7 (getD m 5 0) t, le-ltb 1024 (wordAt m 6) l, eq-eqb (getD m 4 0) 255 k, le-ltb (length m - 8 + 2) (wordAt m 6) (omega arith), le-ltb (wordAt m 6) (length m - 8 + 2) (omega arith), f)
+
+    pub whole-fewer : dueFor m < wordAt m 6 → wholeOf j m ≡ NotWhole FewerThanAnnounced
+    unfolding wholeOf
+    whole-fewer f = rw (le-ltb (length m) 8 a, le-ltb 7 (getD m 5 0) t, le-ltb 1024 (wordAt m 6) l, lt-ltb (dueFor m) (wordAt m 6) f)
+
+    pub whole-more : wordAt m 6 < dueFor m → wholeOf j m ≡ NotWhole MoreThanAnnounced
+    unfolding wholeOf
+    whole-more f =
+        rw (le-ltb (length m) 8 a, le-ltb 7 (getD m 5 0) t, le-ltb 1024 (wordAt m 6) l, le-ltb (dueFor m) (wordAt m 6) (omega arith), lt-ltb (wordAt m 6) (dueFor m) f)
 
   -- a response has a head, and there is room for its code
   pub record Complete : Type 0 where
@@ -146,18 +156,19 @@ module _ (j : Joiner) (m : List ℕ) where
   to-complete : isToComplete (wholeOf j m) → Complete
   unfolding wholeOf
   to-complete x =
-      go (ltb (length m) 8) refl (ltb 7 (getD m 5 0)) (ltb 1024 (wordAt m 6)) refl (isResponse m) (eqb (wordAt m 6) (dueFor m)) refl (getD (j .kept) (getD m 5 0) false) x
+      go (ltb (length m) 8) refl (ltb 7 (getD m 5 0)) (ltb 1024 (wordAt m 6)) refl (isResponse m) (ltb (dueFor m) (wordAt m 6)) (ltb (wordAt m 6) (dueFor m)) refl (getD (j .kept) (getD m 5 0) false) x
     where
-      go : (a : Bool) → ltb (length m) 8 ≡ a → (b c : Bool) → ltb 1024 (wordAt m 6) ≡ c → (r d : Bool) → eqb (wordAt m 6) (cond r (length m - 8 + 2) (length m - 8)) ≡ d → (f : Bool)
-          → isToComplete (cond a (NotWhole TooShort) (cond b (NotWhole ThreadAbove7) (cond c (NotWhole TooLong) (cond (not d) (NotWhole SizeDisagrees) (cond (r && not f) (NotWhole NoSourceKept) (cond r (Response (getD (j .sources) (getD m 5 0) 0)) Plain)))))) → Complete
-      go true ea b c ec r d ed f x = absurd x
-      go false ea true c ec r d ed f x = absurd x
-      go false ea false true ec r d ed f x = absurd x
-      go false ea false false ec r false ed f x = absurd x
-      go false ea false false ec false true ed f x = absurd x
-      go false ea false false ec true true ed false x = absurd x
-      go false ea false false ec true true ed true x =
-          record { head = ltb-false (length m) 8 ea; room = omega (arith, ltb-false (length m) 8 ea, ltb-false 1024 (wordAt m 6) ec, eqb-true (wordAt m 6) (length m - 8 + 2) ed) }
+      go : (a : Bool) → ltb (length m) 8 ≡ a → (b c : Bool) → ltb 1024 (wordAt m 6) ≡ c → (r u d : Bool) → ltb (wordAt m 6) (cond r (length m - 8 + 2) (length m - 8)) ≡ d → (f : Bool)
+          → isToComplete (cond a (NotWhole TooShort) (cond b (NotWhole ThreadAbove7) (cond c (NotWhole TooLong) (cond u (NotWhole FewerThanAnnounced) (cond d (NotWhole MoreThanAnnounced) (cond (r && not f) (NotWhole NoSourceKept) (cond r (Response (getD (j .sources) (getD m 5 0) 0)) Plain))))))) → Complete
+      go true ea b c ec r u d ed f x = absurd x
+      go false ea true c ec r u d ed f x = absurd x
+      go false ea false true ec r u d ed f x = absurd x
+      go false ea false false ec r true d ed f x = absurd x
+      go false ea false false ec r false true ed f x = absurd x
+      go false ea false false ec false false false ed f x = absurd x
+      go false ea false false ec true false false ed false x = absurd x
+      go false ea false false ec true false false ed true x =
+          record { head = ltb-false (length m) 8 ea; room = omega (arith, ltb-false (length m) 8 ea, ltb-false 1024 (wordAt m 6) ec, ltb-false (wordAt m 6) (length m - 8 + 2) ed) }
 
   pub complete-response : (s : ℕ) → wholeOf j m ≡ Response s → Complete
   complete-response s e = to-complete (rw e tt)
@@ -262,13 +273,14 @@ part-beyond a n b e l = sym (rw (e, lt-leb n (length b) l))
 
 -- ---- the page's numbers and words, in its order
 
--- 'At '9000', with m bytes joined': 1, 5, 2, 3, 17, in this order; else the length of what is handed on, for 'FF' with the code that is appended
+-- 'At '9000', with m bytes joined': 1, 5, 2, 3, 19, 17, in this order; else the length of what is handed on, for 'FF' with the code that is appended
 pub said-whole : (j : Joiner) (m : List ℕ) → saidAnswer (wholeAnswer (wholeOf j m) m)
     ≡ checks
     ((ltb (length m) 8, refused 1)
     ∷ (ltb 7 (getD m 5 0), refused 5)
     ∷ (ltb 1024 (wordAt m 6), refused 2)
-    ∷ (not (eqb (wordAt m 6) (cond (eqb (getD m 4 0) 0xFF) (length m - 8 + 2) (length m - 8))), refused 3)
+    ∷ (ltb (cond (eqb (getD m 4 0) 0xFF) (length m - 8 + 2) (length m - 8)) (wordAt m 6), refused 3)
+    ∷ (ltb (wordAt m 6) (cond (eqb (getD m 4 0) 0xFF) (length m - 8 + 2) (length m - 8)), refused 19)
     ∷ (eqb (getD m 4 0) 0xFF && not (getD (j .kept) (getD m 5 0) false), refused 17)
     ∷ (eqb (getD m 4 0) 0xFF, says hands-on ((length m + 2) ∷ []))
     ∷ [])
@@ -293,12 +305,13 @@ said-join j p b =
     ∙ ap (cond (ltb (length b) 1032) (refused 9))
     (checks-said (λ (t : Taking). saidAnswer (answerTo t j (joinedWith (j .joined) p b))) (takingChecks (j .joined) p) Last)
 
--- 1, 2, 3, 15, 5, in this order; else the source is kept
+-- 1, 2, 3, 19, 15, 5, in this order; else the source is kept
 pub said-keeping : (j : Joiner) (s : List ℕ) → saidKeeping (keptOf j s .answer)
     ≡ checks
     ((ltb (length s) 8, refused 1)
     ∷ (ltb 1024 (wordAt s 6), refused 2)
-    ∷ (not (eqb (length s) (8 + wordAt s 6)), refused 3)
+    ∷ (ltb (length s) (8 + wordAt s 6), refused 3)
+    ∷ (ltb (8 + wordAt s 6) (length s), refused 19)
     ∷ (not (eqb (getD s 4 0) 0x42), refused 15)
     ∷ (ltb 7 (getD s 5 0), refused 5)
     ∷ [])

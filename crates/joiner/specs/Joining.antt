@@ -9,7 +9,7 @@ use denote.Ref.{RefT, now}
 use Rattle.lists.specs.Lists.{checks, onto, LiesAt}
 use Rattle.tapa.specs.Numbers.{wordAt, twoBytes}
 use Rattle.tapa.specs.Codes.{response, iccCommand, successful}
-use Rattle.tapa.specs.declared.Refusal.the-variants.{TooShort, TooLong, SizeDisagrees, ThreadAbove7, BufferTooSmall, NotThisPartsMessage, NoSourceKept, StatusNotUsable}
+use Rattle.tapa.specs.declared.Refusal.the-variants.{TooShort, TooLong, FewerThanAnnounced, ThreadAbove7, BufferTooSmall, NotThisPartsMessage, NoSourceKept, StatusNotUsable, MoreThanAnnounced}
 use Rattle.message.specs.Message.{readOf}
 use Rattle.message.specs.declared.Head.{Head}
 use Rattle.message.specs.declared.Reading.{Reading}
@@ -80,13 +80,15 @@ threadOf m = getD m 5 0
 abbrev pub dueFor : List ℕ → ℕ
 dueFor m = cond (isResponse m) (length m - 8 + 2) (length m - 8)
 
--- 'm under 8 (1); thread above 7 (5)'; 'A length over 1,024 is 2, tested before 3; 17 comes last'
+-- 'm under 8 (1); thread above 7 (5)'; 'A length over 1,024 is 2, tested before 3; 17 comes last'; request 04: 'fewer bytes than announced stays 3,
+-- more bytes becomes 19', and 'The joiner's comparison at '9000' splits the same way'
 abbrev pub wholeChecks : Joiner → List ℕ → List (Bool × Whole)
 wholeChecks j m =
     (ltb (length m) 8, NotWhole TooShort)
     ∷ (ltb 7 (threadOf m), NotWhole ThreadAbove7)
     ∷ (ltb 1024 (wordAt m 6), NotWhole TooLong)
-    ∷ (not (eqb (wordAt m 6) (dueFor m)), NotWhole SizeDisagrees)
+    ∷ (ltb (dueFor m) (wordAt m 6), NotWhole FewerThanAnnounced)
+    ∷ (ltb (wordAt m 6) (dueFor m), NotWhole MoreThanAnnounced)
     ∷ (isResponse m && not (getD (j .kept) (threadOf m) false), NotWhole NoSourceKept)
     ∷ (isResponse m, Response (getD (j .sources) (threadOf m) 0))
     ∷ []
@@ -174,7 +176,7 @@ pub record Asks (thread : ℕ) (before after : List ℕ) (w : Writing) : Type 0 
   pub answer : w ≡ askingOf before
   pub buffer : after ≡ cond (ltb (length before) 5) before (onto (getNextBytes thread) before)
 
--- ---- 'Keeping a source takes a message: 1, 2, 3, type not '42' (15), 5.'
+-- ---- 'Keeping a source takes a message: 1, 2, 3, type not '42' (15), 5.'; the reader has 19 at the place of 3 (request 04)
 
 abbrev pub keepChecks : Head → List (Bool × Keeping)
 keepChecks h =

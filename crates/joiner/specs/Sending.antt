@@ -5,10 +5,11 @@ use mathlib.Core.List.{List, [], _∷_, _++_}
 use lib.ListN.{length, replicate}
 use Rattle.lists.specs.Lists.{onto}
 use Rattle.tapa.specs.Codes.{response}
+use Rattle.tapa.specs.declared.Refusal.{Refusal}
 use Rattle.message.specs.Message.{headBytes}
 use Rattle.joiner.specs.declared.Joiner.{Joiner}
 use Rattle.joiner.specs.declared.Answer.{Answer}
-use Rattle.joiner.specs.declared.Answer.the-variants.{More, Message}
+use Rattle.joiner.specs.declared.Answer.the-variants.{More, Message, Refused}
 use Rattle.joiner.specs.Joining.{counting, answerOf, nextOf, bufferOf, partFor}
 
 -- ---- pieces
@@ -51,3 +52,9 @@ pub record Delivers (j : Joiner) (first : List ℕ) (rest : List (List ℕ)) (me
   pub next : joinerBy j (sent first rest) before ≡ counting j 0
   pub buffer : bufferBy j (sent first rest) before ≡ onto message before
   pub part : partFor (Message (length message)) (bufferBy j (sent first rest) before) ≡ message
+
+-- pieces that are refused once the last is there: 'it drops what it joined' (request 04), and 'bytes already joined stay'
+pub record Drops (j : Joiner) (first : List ℕ) (rest : List (List ℕ)) (r : Refusal) (before : List ℕ) : Type 0 where
+  pub answers : answersBy j (sent first rest) before ≡ replicate (length rest) More ++ (Refused r ∷ [])
+  pub next : joinerBy j (sent first rest) before ≡ counting j 0
+  pub buffer : bufferBy j (sent first rest) before ≡ onto (together first rest) before

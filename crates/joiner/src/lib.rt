@@ -17,7 +17,7 @@ ghost use mathlib.Core.Path.{_≡_};
 ghost use Prim.Native.Nat.{_+_, _-_, _≤_};
 ghost use lib.ListN.{length, take};
 ghost use Rattle.lists.specs.Lists.{onto};
-ghost use Rattle.joiner.specs.Joining.{freshJoiner, counting, withSource, takingOf, joinedWith, wholeOf, wholeAnswer, wholeBytes, completed, Joins, PartFor, Asks, keptOf};
+ghost use Rattle.joiner.specs.Joining.{freshJoiner, counting, withSource, takingOf, joinedWith, dueFor, wholeOf, wholeAnswer, wholeBytes, completed, Joins, PartFor, Asks, keptOf};
 
 // The status of a piece that more follow, and of the last.
 const MORE_DATA: u16 = 0x9601;
@@ -116,6 +116,18 @@ fn add_piece(joined: usize, piece: &[u8], buffer: &mut [u8]) -> usize
     joined + n
 }
 
+// The length that joined bytes are to announce: their data, and the code that a response lacks.
+fn due_for(message: &[u8]) -> usize
+    requires { ⌜ 8 ≤ length (now message) ⌝ }
+    ensures { λ r. ⌜ r ≡ dueFor (now (message .entry)) ⌝ }
+{
+    let m = message.len();
+    if message[4] != tapa::RESPONSE {
+        return m - 8;
+    }
+    m - 8 + 2
+}
+
 // Puts a destination and the code '0000' to the m joined bytes of a response.
 fn complete(m: usize, source: u16, buffer: &mut [u8])
     requires { ⌜ 2 ≤ m ⌝ }
@@ -145,8 +157,7 @@ impl Joiner {
     fn judge(self, message: &[u8]) -> Whole
         ensures { λ r. ⌜ r ≡ wholeOf self (now (message .entry)) ⌝ }
     {
-        let m = message.len();
-        if m < 8 {
+        if message.len() < 8 {
             return Whole::Refused(Refusal::TooShort);
         }
         let thread = message[5] as usize;
@@ -157,14 +168,15 @@ impl Joiner {
         if 1024 < announced {
             return Whole::Refused(Refusal::TooLong);
         }
-        if message[4] != tapa::RESPONSE {
-            if announced != m - 8 {
-                return Whole::Refused(Refusal::SizeDisagrees);
-            }
-            return Whole::Plain;
+        let due = due_for(message);
+        if due < announced {
+            return Whole::Refused(Refusal::FewerThanAnnounced);
         }
-        if announced != m - 8 + 2 {
-            return Whole::Refused(Refusal::SizeDisagrees);
+        if announced < due {
+            return Whole::Refused(Refusal::MoreThanAnnounced);
+        }
+        if message[4] != tapa::RESPONSE {
+            return Whole::Plain;
         }
         let kept = self.kept;
         if kept[thread] {

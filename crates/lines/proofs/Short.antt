@@ -6,7 +6,7 @@ use native.Mathlib.Omega.{arith}
 use lib.ListN.{length, length-append}
 use Rattle.tapa.specs.Refusals.{numberOf}
 use Rattle.tapa.specs.declared.Refusal.{Refusal}
-use Rattle.tapa.specs.declared.Refusal.the-variants.{TooShort, TooLong, SizeDisagrees, NotInTable, ThreadAbove7, NoResponseCode, StrayResponse, WrongAsker, BufferTooSmall, EventCannotBeTaken, RowCountOrShape, Repeat, TooManyMulti, NothingToGiveUp, NotThisPartsMessage, StandsInAWait, NoSourceKept, StatusNotUsable}
+use Rattle.tapa.specs.declared.Refusal.the-variants.{TooShort, TooLong, FewerThanAnnounced, NotInTable, ThreadAbove7, NoResponseCode, StrayResponse, WrongAsker, BufferTooSmall, EventCannotBeTaken, RowCountOrShape, Repeat, TooManyMulti, NothingToGiveUp, NotThisPartsMessage, StandsInAWait, NoSourceKept, StatusNotUsable, MoreThanAnnounced}
 use Rattle.text.specs.Text.{ascii, decimalOf, hexesOf}
 use Rattle.text.proofs.Laws.{five-digits, hexes-length}
 use Rattle.rules.specs.declared.Outcome.{Outcome}
@@ -18,7 +18,7 @@ use Rattle.lines.specs.Lines.{lf, wordOf, textOf, stepLine, counted, tot
 few : (r : Refusal) → numberOf r < 100000
 few TooShort = omega arith
 few TooLong = omega arith
-few SizeDisagrees = omega arith
+few FewerThanAnnounced = omega arith
 few NotInTable = omega arith
 few ThreadAbove7 = omega arith
 few NoResponseCode = omega arith
@@ -34,6 +34,7 @@ few NotThisPartsMessage = omega arith
 few StandsInAWait = omega arith
 few NoSourceKept = omega arith
 few StatusNotUsable = omega arith
+few MoreThanAnnounced = omega arith
 
 counted-short : (word : List ℕ) (n : ℕ) → n < 100000 → length (counted word n) ≤ length word + 5
 counted-short word n h = omega (arith, length-append word (decimalOf n), five-digits n h)

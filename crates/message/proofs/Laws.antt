@@ -1,19 +1,19 @@
 -- Laws of the message's definitions: what a reading and a writing answer, check by check.
-use Prim.Native.Nat.{ℕ, _+_, _-_, _≤_}
+use Prim.Native.Nat.{ℕ, _+_, _-_, _≤_, _<_}
 use mathlib.Core.Path.{_≡_, refl, sym}
-use mathlib.Core.Bool.{Bool, true, false, not, cond}
+use mathlib.Core.Bool.{Bool, true, false, cond}
 use mathlib.Core.List.{List, [], _∷_, _++_}
 use native.Mathlib.Omega.{arith}
-use lib.Dec.{eqb, ltb}
+use lib.Dec.{ltb}
 use lib.ListN.{length, take, drop, getD, length-drop}
 use lib.Seq.{take-all}
-use borrow.Author.Tests.{le-ltb, eq-eqb, ltb-false, eqb-true}
+use borrow.Author.Tests.{lt-ltb, le-ltb, ltb-false}
 use Rattle.lists.specs.Lists.{checks, onto}
 use Rattle.lists.proofs.Tests.{checks-said}
 use Rattle.tapa.specs.Numbers.{wordAt}
 use Rattle.tapa.specs.Said.{refused, says, read, code, written}
 use Rattle.tapa.specs.declared.Refusal.{Refusal}
-use Rattle.tapa.specs.declared.Refusal.the-variants.{TooShort, TooLong, SizeDisagrees}
+use Rattle.tapa.specs.declared.Refusal.the-variants.{TooShort, TooLong, FewerThanAnnounced, MoreThanAnnounced}
 use Rattle.message.specs.declared.Head.{Head}
 use Rattle.message.specs.declared.Reading.{Reading}
 use Rattle.message.specs.declared.Reading.the-variants.{Message, Refused}
@@ -24,32 +24,54 @@ use Rattle.message.specs.Said.{saidReading, saidCode, saidWriting}
 
 -- ---- reading
 
--- whatever is said of a reading, 1, 2 and 3 come first
+-- whatever is said of a reading, 1, 2, 3 and 19 come first
 pub through-reading : {A : Type 0} (f : Reading → A) (a : A) (s : List ℕ) → f (Message (headOf s)) ≡ a
     → f (readOf s)
     ≡ checks
     ((ltb (length s) 8, f (Refused TooShort))
     ∷ (ltb 1024 (wordAt s 6), f (Refused TooLong))
-    ∷ (not (eqb (length s) (8 + wordAt s 6)), f (Refused SizeDisagrees))
+    ∷ (ltb (length s) (8 + wordAt s 6), f (Refused FewerThanAnnounced))
+    ∷ (ltb (8 + wordAt s 6) (length s), f (Refused MoreThanAnnounced))
     ∷ [])
     a
 unfolding readOf
 through-reading f a s e = rw (← e) (checks-said f (readChecks s) (Message (headOf s)))
 
 module _ (s : List ℕ) where
-  -- 1, 2, 3, in this order; else the message's fields
+  -- 1, 2, 3, 19, in this order; else the message's fields
   pub said-reading : saidReading (readOf s)
       ≡ checks
       ((ltb (length s) 8, refused 1)
       ∷ (ltb 1024 (wordAt s 6), refused 2)
-      ∷ (not (eqb (length s) (8 + wordAt s 6)), refused 3)
+      ∷ (ltb (length s) (8 + wordAt s 6), refused 3)
+      ∷ (ltb (8 + wordAt s 6) (length s), refused 19)
       ∷ [])
       (says read (wordAt s 0 ∷ wordAt s 2 ∷ getD s 4 0 ∷ getD s 5 0 ∷ wordAt s 6 ∷ []))
   said-reading = through-reading saidReading _ s refl
 
+  -- each refusal, where the checks before it did not apply
+  pub reads-short : length s < 8 → readOf s ≡ Refused TooShort
+  unfolding readOf
+  reads-short l = rw (lt-ltb (length s) 8 l)
+
+  pub reads-long : 8 ≤ length s → 1024 < wordAt s 6 → readOf s ≡ Refused TooLong
+  unfolding readOf
+  reads-long h l = rw (le-ltb (length s) 8 h, lt-ltb 1024 (wordAt s 6) l)
+
+  pub reads-fewer : 8 ≤ length s → wordAt s 6 ≤ 1024 → length s < 8 + wordAt s 6 → readOf s ≡ Refused FewerThanAnnounced
+  unfolding readOf
+  reads-fewer h l f = rw (le-ltb (length s) 8 h, le-ltb 1024 (wordAt s 6) l, lt-ltb (length s) (8 + wordAt s 6) f)
+
+  -- (so many bytes are no fewer than 8)
+  pub reads-more : wordAt s 6 ≤ 1024 → 8 + wordAt s 6 < length s → readOf s ≡ Refused MoreThanAnnounced
+  unfolding readOf
+  reads-more l m =
+      rw (le-ltb (length s) 8 (omega arith), le-ltb 1024 (wordAt s 6) l, le-ltb (length s) (8 + wordAt s 6) (omega arith), lt-ltb (8 + wordAt s 6) (length s) m)
+
   pub reads-whole : 8 ≤ length s → wordAt s 6 ≤ 1024 → length s ≡ 8 + wordAt s 6 → readOf s ≡ Message (headOf s)
   unfolding readOf
-  reads-whole h l e = rw (le-ltb (length s) 8 h, le-ltb 1024 (wordAt s 6) l, eq-eqb (length s) (8 + wordAt s 6) e)
+  reads-whole h l e =
+      rw (le-ltb (length s) 8 h, le-ltb 1024 (wordAt s 6) l, le-ltb (length s) (8 + wordAt s 6) (omega arith), le-ltb (8 + wordAt s 6) (length s) (omega arith))
 
   -- what is known of bytes that read as a message
   pub record Whole (h : Head) : Type 0 where
@@ -59,17 +81,20 @@ module _ (s : List ℕ) where
 
   pub whole : (h : Head) → readOf s ≡ Message h → Whole h
   unfolding readOf
-  whole h e = go (ltb (length s) 8) refl (ltb 1024 (wordAt s 6)) refl (eqb (length s) (8 + wordAt s 6)) refl e
+  whole h e =
+      go (ltb (length s) 8) refl (ltb 1024 (wordAt s 6)) refl (ltb (length s) (8 + wordAt s 6)) refl (ltb (8 + wordAt s 6) (length s)) refl e
     where
-      go : (a : Bool) → ltb (length s) 8 ≡ a → (b : Bool) → ltb 1024 (wordAt s 6) ≡ b → (q : Bool) → eqb (length s) (8 + wordAt s 6) ≡ q
-          → cond a (Refused TooShort) (cond b (Refused TooLong) (cond (not q) (Refused SizeDisagrees) (Message (headOf s)))) ≡ Message h → Whole h
-      go true ea b eb q eq k = absurd (let z : _≡_ {A = ℕ} 0 1 = cc in omega arith)
-      go false ea true eb q eq k = absurd (let z : _≡_ {A = ℕ} 0 1 = cc in omega arith)
-      go false ea false eb false eq k = absurd (let z : _≡_ {A = ℕ} 0 1 = cc in omega arith)
-      go false ea false eb true eq k = record {
+      go : (a : Bool) → ltb (length s) 8 ≡ a → (b : Bool) → ltb 1024 (wordAt s 6) ≡ b → (f : Bool) → ltb (length s) (8 + wordAt s 6) ≡ f
+          → (m : Bool) → ltb (8 + wordAt s 6) (length s) ≡ m
+          → cond a (Refused TooShort) (cond b (Refused TooLong) (cond f (Refused FewerThanAnnounced) (cond m (Refused MoreThanAnnounced) (Message (headOf s))))) ≡ Message h → Whole h
+      go true ea b eb f ef m em k = absurd (let z : _≡_ {A = ℕ} 0 1 = cc in omega arith)
+      go false ea true eb f ef m em k = absurd (let z : _≡_ {A = ℕ} 0 1 = cc in omega arith)
+      go false ea false eb true ef m em k = absurd (let z : _≡_ {A = ℕ} 0 1 = cc in omega arith)
+      go false ea false eb false ef true em k = absurd (let z : _≡_ {A = ℕ} 0 1 = cc in omega arith)
+      go false ea false eb false ef false em k = record {
         head = (cc);
         few = ltb-false 1024 (wordAt s 6) eb;
-        size = eqb-true (length s) (8 + wordAt s 6) eq;
+        size = omega (arith, ltb-false (length s) (8 + wordAt s 6) ef, ltb-false (8 + wordAt s 6) (length s) em);
       }
 
 -- the head that the code puts together, field by field

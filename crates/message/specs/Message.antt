@@ -1,15 +1,15 @@
 -- The message (Table 3)
 use Prim.Native.Nat.{ℕ, _+_, _-_, _/_, _%_}
 use mathlib.Core.Path.{_≡_}
-use mathlib.Core.Bool.{Bool, true, false, not, cond}
+use mathlib.Core.Bool.{Bool, true, false, cond}
 use mathlib.Core.List.{List, [], _∷_, _++_}
-use lib.Dec.{eqb, ltb}
+use lib.Dec.{ltb}
 use lib.ListN.{length, drop, getD}
 use denote.Ref.{RefT, now}
 use Rattle.lists.specs.Lists.{checks, onto, LiesAt}
 use Rattle.tapa.specs.Numbers.{wordAt, twoBytes}
 use Rattle.tapa.specs.Codes.{response}
-use Rattle.tapa.specs.declared.Refusal.the-variants.{TooShort, TooLong, SizeDisagrees, BufferTooSmall}
+use Rattle.tapa.specs.declared.Refusal.the-variants.{TooShort, TooLong, FewerThanAnnounced, MoreThanAnnounced, BufferTooSmall}
 use Rattle.message.specs.declared.Head.{Head}
 use Rattle.message.specs.declared.Reading.{Reading}
 use Rattle.message.specs.declared.Reading.the-variants.{Message, Refused}
@@ -30,12 +30,13 @@ headOf s = record {
   length = wordAt s 6;
 }
 
--- 'The reader checks 1, 2, 3'
+-- 'The reader checks 1, 2, 3'; request 04: 'fewer bytes than announced stays 3, more bytes becomes 19', '19 stands at the place of 3'
 abbrev pub readChecks : List ℕ → List (Bool × Reading)
 readChecks s =
     (ltb (length s) 8, Refused TooShort)
     ∷ (ltb 1024 (wordAt s 6), Refused TooLong)
-    ∷ (not (eqb (length s) (8 + wordAt s 6)), Refused SizeDisagrees)
+    ∷ (ltb (length s) (8 + wordAt s 6), Refused FewerThanAnnounced)
+    ∷ (ltb (8 + wordAt s 6) (length s), Refused MoreThanAnnounced)
     ∷ []
 
 unfoldable pub readOf : List ℕ → Reading

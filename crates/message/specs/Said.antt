@@ -10,7 +10,7 @@ use Rattle.message.specs.declared.Coded.the-variants.{Code, Missing}
 use Rattle.message.specs.declared.Writing.{Writing}
 use Rattle.message.specs.declared.Writing.the-variants.{Written, Refused as WriteRefused}
 
--- destination, source, type, thread, data length; or 1, 2, 3
+-- destination, source, type, thread, data length; or 1, 2, 3, 19
 abbrev pub saidReading : Reading → Said
 saidReading (Message h) = says read (h .destination ∷ h .source ∷ h .kind ∷ h .thread ∷ h .length ∷ [])
 saidReading (Refused r) = refused (numberOf r)

@@ -49,8 +49,11 @@ pub fn read(message: &[u8]) -> Reading
     if 1024 < length {
         return Reading::Refused(Refusal::TooLong);
     }
-    if message.len() != 8 + length {
-        return Reading::Refused(Refusal::SizeDisagrees);
+    if message.len() < 8 + length {
+        return Reading::Refused(Refusal::FewerThanAnnounced);
+    }
+    if 8 + length < message.len() {
+        return Reading::Refused(Refusal::MoreThanAnnounced);
     }
     Reading::Message(Head {
         destination: tapa::pair(message[0], message[1]),

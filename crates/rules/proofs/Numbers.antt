@@ -6,17 +6,16 @@ use mathlib.Core.Bool.{true, false}
 use mathlib.Core.List.{List, [], _∷_}
 use mathlib.Core.Option.{none, some}
 use lib.ListN.{length}
-use borrow.Author.Tests.{lt-ltb, le-ltb, ne-eqb}
 use Rattle.lists.specs.Lists.{someOf, first}
 use Rattle.tapa.specs.Address.{categoryOf, handlerOf}
 use Rattle.tapa.specs.Numbers.{wordAt}
-use Rattle.tapa.specs.declared.Refusal.the-variants.{TooShort, TooLong, SizeDisagrees}
 use Rattle.tapa.specs.Said.{refused, says, passed, answered, swallowed, event, turned, given, reset}
 use Rattle.types.specs.Types.{known}
 use Rattle.message.specs.declared.Head.{Head}
-use Rattle.message.specs.declared.Reading.the-variants.{Message, Refused as Unread}
+use Rattle.message.specs.declared.Reading.the-variants.{Message}
 use Rattle.message.specs.declared.Coded.the-variants.{Code, Missing}
 use Rattle.message.specs.Message.{readOf, partOf, codeOf, responseOf}
+use Rattle.message.proofs.Laws.{reads-short, reads-long, reads-fewer, reads-more}
 use Rattle.table.specs.Table.{listed, openedAt}
 use Rattle.place.specs.declared.Place.{Place}
 use Rattle.places.specs.Places.{openOn, owesExactly, standsIn}
@@ -27,21 +26,6 @@ use Rattle.rules.proofs.Steps.{message-small, message-unread, message-u
 use Rattle.rules.proofs.Steps.{event-taken, event-refused, closed-to, turned-a, turned-b, turned-c, turned-d, turned-e, turned-f, passes}
 use Rattle.rules.proofs.Steps.{late-swallowed, late-stray, response-missing, response-late, response-wrong, response-answered}
 use Rattle.rules.proofs.Steps.{give-up-small, give-up-thread, give-up-none, give-up-given, replaced-unlisted, replaced-stands, replaced-reset}
-
--- ---- what is no message
-module _ (s : List ℕ) where
-  reads-short : length s < 8 → readOf s ≡ Unread TooShort
-  unfolding readOf
-  reads-short l = rw (lt-ltb (length s) 8 l)
-
-  module _ (l : 8 ≤ length s) where
-    reads-long : 1024 < wordAt s 6 → readOf s ≡ Unread TooLong
-    unfolding readOf
-    reads-long m = rw (le-ltb (length s) 8 l, lt-ltb 1024 (wordAt s 6) m)
-
-    reads-uneven : wordAt s 6 ≤ 1024 → (length s ≡ 8 + wordAt s 6 → ⊥) → readOf s ≡ Unread SizeDisagrees
-    unfolding readOf
-    reads-uneven m n = rw (le-ltb (length s) 8 l, le-ltb 1024 (wordAt s 6) m, ne-eqb (length s) (8 + wordAt s 6) n)
 
 -- ---- a message
 module _ (v : View) (room : ℕ) (s : List ℕ) where
@@ -55,8 +39,11 @@ module _ (v : View) (room : ℕ) (s : List ℕ) where
     pub message-2 : 8 ≤ length s → 1024 < wordAt s 6 → saidOutcome (judge v room (message s)) ≡ refused 2
     message-2 l m = ap saidOutcome (message-unread v room s enough (readOf s) refl _ (reads-long s l m))
 
-    pub message-3 : 8 ≤ length s → wordAt s 6 ≤ 1024 → (length s ≡ 8 + wordAt s 6 → ⊥) → saidOutcome (judge v room (message s)) ≡ refused 3
-    message-3 l m n = ap saidOutcome (message-unread v room s enough (readOf s) refl _ (reads-uneven s l m n))
+    pub message-3 : 8 ≤ length s → wordAt s 6 ≤ 1024 → length s < 8 + wordAt s 6 → saidOutcome (judge v room (message s)) ≡ refused 3
+    message-3 l m n = ap saidOutcome (message-unread v room s enough (readOf s) refl _ (reads-fewer s l m n))
+
+    pub message-19 : wordAt s 6 ≤ 1024 → 8 + wordAt s 6 < length s → saidOutcome (judge v room (message s)) ≡ refused 19
+    message-19 m n = ap saidOutcome (message-unread v room s enough (readOf s) refl _ (reads-more s m n))
 
     module _ (h : Head) (r : readOf s ≡ Message h) where
       pub message-4 : listed (handlerOf (h .source)) (v .rows) ≡ false → saidOutcome (judge v room (message s)) ≡ refused 4

@@ -114,7 +114,7 @@ unfoldable pub judgeRead : View → Reading → Coded → Outcome
 judgeRead v (Unread r) code = Refused r
 judgeRead v (Message h) code = checks (commonTests (v .rows) h) (judgeKind v h code)
 
--- 'Common checks, in order: reply buffer under 10 bytes (9)', then the reader's own, 1, 2 and 3
+-- 'Common checks, in order: reply buffer under 10 bytes (9)', then the reader's own, 1, 2, 3 and 19
 unfoldable pub judgeMessage : View → (room : ℕ) → List ℕ → Outcome
 judgeMessage v room s = checks ((ltb room 10, Refused BufferTooSmall) ∷ []) (judgeRead v (readOf s) (codeOf (partOf s)))
 

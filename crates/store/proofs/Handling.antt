@@ -61,13 +61,14 @@ start-is body part n e k =
 pub start-fits : (body part : List ℕ) → body ≡ onto part (replicate 390 0) → length body ≡ 390 → length part ≤ 390
 start-fits body part e k = omega (arith, ap length e, length-append part (drop (length part) (replicate 390 0)), k)
 
--- 9, 1, 2, 3, 15, in this order; else what the command comes to
+-- 9, 1, 2, 3, 19, 15, in this order; else what the command comes to
 pub said-answer : (b : Book) (area s reply : List ℕ) → saidAnswer (handled b area s reply .answer)
     ≡ checks
     ((ltb (length reply) 398, refused 9)
     ∷ (ltb (length s) 8, refused 1)
     ∷ (ltb 1024 (wordAt s 6), refused 2)
-    ∷ (not (eqb (length s) (8 + wordAt s 6)), refused 3)
+    ∷ (ltb (length s) (8 + wordAt s 6), refused 3)
+    ∷ (ltb (8 + wordAt s 6) (length s), refused 19)
     ∷ (not (eqb (categoryOf (wordAt s 0)) 0x05) || eqb (getD s 4 0) 0xFF, refused 15)
     ∷ [])
     (saidAnswer (answerOf (some (deedOf (getD s 4 0) (partOf s) b area .part))))

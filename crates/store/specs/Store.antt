@@ -41,7 +41,7 @@ use Rattle.tapa.specs.declared.Refusal.the-variants.{BufferTooSmall, NotThisPar
 unfoldable pub elsewhere : Head → Bool
 elsewhere h = not (eqb (categoryOf (h .destination)) dataStore) || eqb (h .kind) response
 
--- 'Refusals: 9, 1, 2, 3 and 15 as for the event queue'
+-- 'Refusals: 9, 1, 2, 3 and 15 as for the event queue'; the reader has 19 at the place of 3 (request 04)
 abbrev pub meantChecks : Head → List (Bool × Checked)
 meantChecks h = (elsewhere h, Failed NotThisPartsMessage) ∷ []
 

@@ -1,8 +1,8 @@
--- 'Refusal numbers': the page's table, line by line.
+-- 'Refusal numbers': the page's table, line by line, and the numbers that requests added.
 use mathlib.Core.Path.{_≡_, refl}
 use mathlib.Core.List.{List, [], _∷_, map}
 use Rattle.tapa.specs.declared.Refusal.{Refusal}
-use Rattle.tapa.specs.declared.Refusal.the-variants.{TooShort, TooLong, SizeDisagrees, NotInTable, ThreadAbove7, NoResponseCode, StrayResponse, WrongAsker, BufferTooSmall, EventCannotBeTaken, RowCountOrShape, Repeat, TooManyMulti, NothingToGiveUp, NotThisPartsMessage, StandsInAWait, NoSourceKept, StatusNotUsable}
+use Rattle.tapa.specs.declared.Refusal.the-variants.{TooShort, TooLong, FewerThanAnnounced, NotInTable, ThreadAbove7, NoResponseCode, StrayResponse, WrongAsker, BufferTooSmall, EventCannotBeTaken, RowCountOrShape, Repeat, TooManyMulti, NothingToGiveUp, NotThisPartsMessage, StandsInAWait, NoSourceKept, StatusNotUsable, MoreThanAnnounced}
 use Rattle.tapa.specs.Refusals.{numberOf}
 
 -- the refusals by their names, in the table's order
@@ -10,7 +10,7 @@ abbrev pub named : List Refusal
 named =
     TooShort
     ∷ TooLong
-    ∷ SizeDisagrees
+    ∷ FewerThanAnnounced
     ∷ NotInTable
     ∷ ThreadAbove7
     ∷ NoResponseCode
@@ -26,7 +26,8 @@ named =
     ∷ StandsInAWait
     ∷ NoSourceKept
     ∷ StatusNotUsable
+    ∷ MoreThanAnnounced
     ∷ []
 
-pub numbered : map numberOf named ≡ 1 ∷ 2 ∷ 3 ∷ 4 ∷ 5 ∷ 6 ∷ 7 ∷ 8 ∷ 9 ∷ 10 ∷ 11 ∷ 12 ∷ 13 ∷ 14 ∷ 15 ∷ 16 ∷ 17 ∷ 18 ∷ []
+pub numbered : map numberOf named ≡ 1 ∷ 2 ∷ 3 ∷ 4 ∷ 5 ∷ 6 ∷ 7 ∷ 8 ∷ 9 ∷ 10 ∷ 11 ∷ 12 ∷ 13 ∷ 14 ∷ 15 ∷ 16 ∷ 17 ∷ 18 ∷ 19 ∷ []
 numbered = refl

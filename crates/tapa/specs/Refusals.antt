@@ -1,13 +1,13 @@
 -- Refusal numbers
 use Prim.Native.Nat.{ℕ}
 use Rattle.tapa.specs.declared.Refusal.{Refusal}
-use Rattle.tapa.specs.declared.Refusal.the-variants.{TooShort, TooLong, SizeDisagrees, NotInTable, ThreadAbove7, NoResponseCode, StrayResponse, WrongAsker, BufferTooSmall, EventCannotBeTaken, RowCountOrShape, Repeat, TooManyMulti, NothingToGiveUp, NotThisPartsMessage, StandsInAWait, NoSourceKept, StatusNotUsable}
+use Rattle.tapa.specs.declared.Refusal.the-variants.{TooShort, TooLong, FewerThanAnnounced, NotInTable, ThreadAbove7, NoResponseCode, StrayResponse, WrongAsker, BufferTooSmall, EventCannotBeTaken, RowCountOrShape, Repeat, TooManyMulti, NothingToGiveUp, NotThisPartsMessage, StandsInAWait, NoSourceKept, StatusNotUsable, MoreThanAnnounced}
 
--- the page's number of each refusal
+-- the page's number of each refusal; request 04: 'fewer bytes than announced stays 3, more bytes becomes 19'
 abbrev pub numberOf : Refusal → ℕ
 numberOf TooShort = 1
 numberOf TooLong = 2
-numberOf SizeDisagrees = 3
+numberOf FewerThanAnnounced = 3
 numberOf NotInTable = 4
 numberOf ThreadAbove7 = 5
 numberOf NoResponseCode = 6
@@ -23,3 +23,4 @@ numberOf NotThisPartsMessage = 15
 numberOf StandsInAWait = 16
 numberOf NoSourceKept = 17
 numberOf StatusNotUsable = 18
+numberOf MoreThanAnnounced = 19

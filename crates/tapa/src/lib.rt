@@ -10,11 +10,12 @@ ghost use Prim.Native.Nat.{_+_, _*_};
 ghost use Rattle.tapa.specs.Address.{categoryOf, handlerOf, multi};
 ghost use Rattle.tapa.specs.Refusals.{numberOf};
 
-// The refusals 1 to 18, in the page's order.
+// The refusals 1 to 19, in the order of their numbers. 3 and 19 are a message whose size is not
+// the one that it announces: a cable lost bytes, or two messages came as one.
 pub enum Refusal {
     TooShort,
     TooLong,
-    SizeDisagrees,
+    FewerThanAnnounced,
     NotInTable,
     ThreadAbove7,
     NoResponseCode,
@@ -30,6 +31,7 @@ pub enum Refusal {
     StandsInAWait,
     NoSourceKept,
     StatusNotUsable,
+    MoreThanAnnounced,
 }
 
 // Response codes, by TAPA's names.
@@ -125,7 +127,7 @@ pub fn number(refusal: Refusal) -> u8
     match refusal {
         Refusal::TooShort => 1,
         Refusal::TooLong => 2,
-        Refusal::SizeDisagrees => 3,
+        Refusal::FewerThanAnnounced => 3,
         Refusal::NotInTable => 4,
         Refusal::ThreadAbove7 => 5,
         Refusal::NoResponseCode => 6,
@@ -141,6 +143,7 @@ pub fn number(refusal: Refusal) -> u8
         Refusal::StandsInAWait => 16,
         Refusal::NoSourceKept => 17,
         Refusal::StatusNotUsable => 18,
+        Refusal::MoreThanAnnounced => 19,
     }
 }
 
