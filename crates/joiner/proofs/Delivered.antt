@@ -18,7 +18,7 @@ use Rattle.joiner.specs.declared.Taking.the-variants.{NotLast, Last}
 use Rattle.joiner.specs.declared.Whole.{Whole}
 use Rattle.joiner.specs.declared.Whole.the-variants.{Plain, Response, Refused as NotWhole}
 use Rattle.joiner.specs.declared.Answer.{Answer}
-use Rattle.joiner.specs.declared.Answer.the-variants.{More, Message, Refused}
+use Rattle.joiner.specs.declared.Answer.the-variants.{More, Message}
 use Rattle.joiner.specs.Joining.{counting, statusOf, dataOf, takingOf, joinedWith, wholeOf, completed, wholeAnswer, wholeBytes, answerOf, nextOf, bufferOf, partFor}
 use Rattle.joiner.specs.Sending.{together, sent, Small, responseSent, answersBy, joinerBy, bufferBy, Delivers, Drops}
 use Rattle.joiner.proofs.Laws.{takes-last, takes-more, whole-longer, whole-plain, whole-response}

@@ -1,9 +1,9 @@
--- Cable fault or double send (request 04): what is left of a message that was cut is 3, and a message with anything stuck to it is 19.
+-- Cable fault or double send (request 04): a message that was cut behind its eighth byte is 3, and one with anything stuck to it is 19.
 use Prim.Native.Nat.{ℕ, _+_, _≤_, _<_}
 use mathlib.Core.Path.{_≡_, refl}
 use mathlib.Core.List.{List, [], _∷_, _++_}
 use native.Mathlib.Omega.{arith}
-use lib.ListN.{length, take, getD, length-append, List·getD-append}
+use lib.ListN.{length, take, length-append, List·getD-append}
 use lib.Seq.{length-take-le, getD-take}
 use Rattle.tapa.specs.Numbers.{wordAt}
 use Rattle.tapa.specs.Said.{refused}

@@ -5,7 +5,7 @@ use Rattle.tapa.specs.declared.Refusal.{Refusal}
 use Rattle.tapa.specs.declared.Refusal.the-variants.{TooShort, TooLong, FewerThanAnnounced, NotInTable, ThreadAbove7, NoResponseCode, StrayResponse, WrongAsker, BufferTooSmall, EventCannotBeTaken, RowCountOrShape, Repeat, TooManyMulti, NothingToGiveUp, NotThisPartsMessage, StandsInAWait, NoSourceKept, StatusNotUsable, MoreThanAnnounced}
 use Rattle.tapa.specs.Refusals.{numberOf}
 
--- the refusals by their names, in the table's order
+-- the refusals by their names, in the order of their numbers
 abbrev pub named : List Refusal
 named =
     TooShort
