@@ -10,8 +10,8 @@ ghost use Prim.Native.Nat.{_+_, _*_};
 ghost use Rattle.tapa.specs.Address.{categoryOf, handlerOf, multi};
 ghost use Rattle.tapa.specs.Refusals.{numberOf};
 
-// The refusals 1 to 19, in the order of their numbers. 3 and 19 are a message whose size is not
-// the one that it announces: a cable lost bytes, or two messages came as one.
+// The refusals 1 to 19, in the order of their numbers. 3 is a message with fewer bytes than it
+// announces (a cable lost some), 19 one with more (two came as one, or a stale byte).
 pub enum Refusal {
     TooShort,
     TooLong,
