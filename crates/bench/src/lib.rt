@@ -144,7 +144,8 @@ fn fits_lent(tag: u8, long: usize) -> bool {
         0x11 => 8 <= long,
         0x12 | 0x16 | 0x19 => 2 <= long,
         0x14 => long == 2,
-        0x1A | 0x1D => long == 3,
+        0x1A => long == 5,
+        0x1D => long == 3,
         _ => false,
     }
 }
@@ -355,7 +356,7 @@ fn put_sent<'a>(line: &mut [u8], outcome: Outcome, message: &'a [u8], reply: &'a
     answers::put_bytes(line, b, reply)
 }
 
-// Tag 19, a message to route, or 1A, a thread to give up.
+// Tag 19, a message to route, or 1A, a wait to give up: its thread and its asked address.
 fn ask_router(router: Router, tag: u8, asked: &[u8], reply: &mut [u8]) -> Routed
     requires { ⌜ routers.Lawful router ⌝ }
     ensures { λ r. ⌜ routers.Lawful (r .next) ⌝ }
@@ -363,7 +364,7 @@ fn ask_router(router: Router, tag: u8, asked: &[u8], reply: &mut [u8]) -> Routed
     if tag == 0x19 {
         return router.route(asked, reply);
     }
-    router.give_up(byte_at(asked, 0), reply)
+    router.give_up(byte_at(asked, 0), word_at(asked, 1), reply)
 }
 
 impl Parts {
@@ -445,7 +446,7 @@ impl Parts {
         Told { place, next }
     }
 
-    // Tags 19 and 1A: a message or a thread for the router; then the part to send.
+    // Tags 19 and 1A: a message or a give up for the router; then the part to send.
     fn on_router(self, line: &mut [u8], tag: u8, asked: &[u8], reply: &mut [u8]) -> Told
         requires { ⌜ Right self ⌝ }
         ensures { λ r. ⌜ Right (r .next) ⌝ }

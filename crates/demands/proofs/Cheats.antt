@@ -6,7 +6,7 @@ use mathlib.Core.List.{List, [], _∷_, _++_}
 use native.Mathlib.Omega.{arith}
 use lib.ListN.{length, getD}
 use Rattle.tapa.specs.Address.{categoryOf, subAddressOf, handlerOf, multi}
-use Rattle.tapa.specs.Codes.{handlerError}
+use Rattle.tapa.specs.Codes.{handlerBusy}
 use Rattle.types.specs.Types.{own, common}
 use Rattle.tapa.specs.declared.Refusal.{Refusal}
 use Rattle.tapa.specs.declared.Refusal.the-variants.{TooShort}
@@ -60,7 +60,7 @@ record Computed : Type 0 where
   pub too-short : judgeMessage (fresh rows) 10 [] ≡ Refused TooShort
   pub asked : judgeMessage (fresh rows) 10 ask ≡ passes
   pub waits-on : applied passes (fresh rows) ≡ one-passed
-  pub asked-again : judgeMessage one-passed 10 ask ≡ Turned 0x0100 0x0001 3 handlerError
+  pub asked-again : judgeMessage one-passed 10 ask ≡ Turned 0x0100 0x0001 3 handlerBusy
   pub answered : judgeMessage one-passed 10 answer ≡ Answered 0x0001 0x0100 3 0
   pub waits-no-more : applied (Answered 0x0001 0x0100 3 0) one-passed ≡ fresh rows
 
@@ -115,13 +115,13 @@ module _ (b : Build) (m : Meets b) where
   pub echoes : Echoes b → ⊥
   echoes c = differ (sym (turned .outcome) ∙ c .1 began (start-fresh lent) ask [] ask ∙ sym (c .1 began (start-fresh lent) ask (answer ∷ []) ask) ∙ passed .outcome)
     where
-      turned : Step on ask (Turned 0x0100 0x0001 3 handlerError) one-passed
+      turned : Step on ask (Turned 0x0100 0x0001 3 handlerBusy) one-passed
       turned = step on one-passed (first .law) (first .view) ask _ one-passed (computed .asked-again) refl
 
       passed : Step (b on answer ten .routed .next) ask passes one-passed
       passed = step _ (fresh rows) (second .law) (second .view) ask passes one-passed (computed .asked) (computed .waits-on)
 
-      differ : Turned 0x0100 0x0001 3 handlerError ≡ passes → ⊥
+      differ : Turned 0x0100 0x0001 3 handlerBusy ≡ passes → ⊥
       differ e = let z : _≡_ {A = ℕ} 0 1 = cc in omega arith
 
 -- ---- made-up totals: two inputs of one length, each with one line before the totals; the one has a message that is passed, the other one that is

@@ -72,7 +72,7 @@ module _ (first : Router) (f : Fresh first) where
   pub used-lawful : {h : List Entry} {r : Router} → Used first h r → Lawful r
   used-lawful started = f .law
   used-lawful (routed h r u bytes before after out c) = c .law
-  used-lawful (gave-up h r u thread before after out c) = c .law
+  used-lawful (gave-up h r u thread address before after out c) = c .law
   used-lawful (was-replaced h r u address out c) = c .law
 
   abbrev rows : List Row
@@ -92,8 +92,8 @@ module _ (first : Router) (f : Fresh first) where
   used-ran started = begun _ (λ i. record { rows = rows; places = f .no-places i })
   used-ran (routed h r u bytes before after out c) =
       next h (viewOf r) (used-ran u) _ (message bytes) _ _ (viewOf (out .next)) (c .outcome) (buffered _ _ bytes before after (c .outcome) (c .reply)) (c .view)
-  used-ran (gave-up h r u thread before after out c) =
-      next h (viewOf r) (used-ran u) _ (giveUp thread) _ _ (viewOf (out .next)) (c .outcome) (buffered _ _ [] before after (c .outcome) (c .reply)) (c .view)
+  used-ran (gave-up h r u thread address before after out c) =
+      next h (viewOf r) (used-ran u) _ (giveUp thread address) _ _ (viewOf (out .next)) (c .outcome) (buffered _ _ [] before after (c .outcome) (c .reply)) (c .view)
   used-ran (was-replaced h r u address out c) =
       next h (viewOf r) (used-ran u) 0 (replaced address) _ _ (viewOf (out .next)) (c .outcome) (none-out (viewOf r) address) (c .view)
 

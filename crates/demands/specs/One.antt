@@ -77,9 +77,9 @@ pub record OneResult : Type 0 where
       → OnMessage (lent cells c) n (lent list l) k message (lent reply b) s
       → OnMessage (lent cells c′) n (lent list l′) k message (lent reply b′) s′
       → (s ≡ s′) × (now l ≡ now l′) × (now c ≡ now c′) × (now b ≡ now b′)
-  pub on-give-up : (list l l′ : RefT (List ℕ)) (k : ℕ) (s s′ : Step) (thread : ℕ) (reply b b′ : RefT (List ℕ))
-      → OnGiveUp (lent list l) k thread (lent reply b) s
-      → OnGiveUp (lent list l′) k thread (lent reply b′) s′
+  pub on-give-up : (list l l′ : RefT (List ℕ)) (k : ℕ) (s s′ : Step) (thread address : ℕ) (reply b b′ : RefT (List ℕ))
+      → OnGiveUp (lent list l) k thread address (lent reply b) s
+      → OnGiveUp (lent list l′) k thread address (lent reply b′) s′
       → (s ≡ s′) × (now l ≡ now l′) × (now b ≡ now b′)
   pub on-replaced : (list l l′ : RefT (List ℕ)) (k : ℕ) (s s′ : Step) (cells c c′ : RefT (List ℕ)) (n address : ℕ)
       → OnReplaced (lent cells c) n (lent list l) k address s
@@ -87,7 +87,7 @@ pub record OneResult : Type 0 where
       → (s ≡ s′) × (now l ≡ now l′) × (now c ≡ now c′)
   -- router
   pub route : (r : Router) (message before : List ℕ) → OneWith (λ out after. Routes r message before after out)
-  pub give-up : (r : Router) (thread : ℕ) (before : List ℕ) → OneWith (λ out after. GivesUp r thread before after out)
+  pub give-up : (r : Router) (thread address : ℕ) (before : List ℕ) → OneWith (λ out after. GivesUp r thread address before after out)
   pub replaced : (r : Router) (address : ℕ) → One (Replaces r address)
   pub part-to-send : (o : Outcome) (message reply : RefT (List ℕ)) → OnePart (Sending o message reply)
   -- replies (with_part, with_code)

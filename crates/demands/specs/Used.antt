@@ -29,8 +29,8 @@ pub data Used (first : Router) : List Entry → Router → Type 0 where
       → (bytes before after : List ℕ) (out : Routed) → Routing (judgeMessage (viewOf r) (length before) bytes) r before after out
       → Used first (made (length before) (message bytes) (out .outcome) (sent (out .outcome) bytes after) ∷ h) (out .next)
   gave-up : (h : List Entry) (r : Router) → Used first h r
-      → (thread : ℕ) (before after : List ℕ) (out : Routed) → Routing (judgeGiveUp (viewOf r) (length before) thread) r before after out
-      → Used first (made (length before) (giveUp thread) (out .outcome) (sent (out .outcome) [] after) ∷ h) (out .next)
+      → (thread address : ℕ) (before after : List ℕ) (out : Routed) → Routing (judgeGiveUp (viewOf r) (length before) thread address) r before after out
+      → Used first (made (length before) (giveUp thread address) (out .outcome) (sent (out .outcome) [] after) ∷ h) (out .next)
   was-replaced : (h : List Entry) (r : Router) → Used first h r
       → (address : ℕ) (out : Routed) → Replacing (judgeReplaced (viewOf r) address) r out
       → Used first (made 0 (replaced address) (out .outcome) [] ∷ h) (out .next)

@@ -37,7 +37,7 @@ abbrev pub StepsBytes : Steps → Type 0
 StepsBytes over = Unit {0}
 StepsBytes (broken n) = Unit {0}
 StepsBytes (then (message c) m) = Bytes c × StepsBytes m
-StepsBytes (then (give-up t) m) = StepsBytes m
+StepsBytes (then (give-up t a) m) = StepsBytes m
 StepsBytes (then (replaced a) m) = StepsBytes m
 
 step-bytes : (n t : ℕ) (c : List ℕ) (m : Steps) → Bytes c → StepsBytes m → StepsBytes (stepThen n (stepOf t c) m)
@@ -45,7 +45,7 @@ unfolding stepOf
 step-bytes n t c m b w =
     checks-are (λ (o : Option Step). StepsBytes (stepThen n o m))
     ((eqb t 2, some (message c))
-    ∷ (eqb t 3 && eqb (length c) 1, some (give-up (getD c 0 0)))
+    ∷ (eqb t 3 && eqb (length c) 3, some (give-up (getD c 0 0) (wordAt c 1)))
     ∷ (eqb t 4 && eqb (length c) 2, some (replaced (wordAt c 0)))
     ∷ [])
     none

@@ -47,13 +47,23 @@ module _ (s : List ℕ) (a n : ℕ) (h : a + n ≤ length s) where
     unfolding stepOf
     is-message p = rw p
 
-    pub is-give-up : t ≡ 3 → n ≡ 1 → GiveUp (getD s a 0) (a + n) ≡ stepPlaced a (a + n) (stepOf t (take n (drop a s)))
+    pub is-give-up : (x : ℕ) → t ≡ 3 → n ≡ 3 → x ≡ wordAt s (a + 1)
+        → GiveUp (getD s a 0) x (a + n) ≡ stepPlaced a (a + n) (stepOf t (take n (drop a s)))
     unfolding stepOf
-    is-give-up p q = rw (p, long, eq-eqb n 1 q, byte 0 a (omega arith) (omega arith))
+    is-give-up x p q g =
+        rw (
+          p,
+          long,
+          eq-eqb n 3 q,
+          byte 0 a (omega arith) (omega arith),
+          byte 1 (a + 1) (omega arith) (omega arith),
+          byte 2 (a + 1 + 1) (omega arith) (omega arith),
+          g,
+        )
 
-    pub no-give-up : t ≡ 3 → (n ≡ 1 → ⊥) → Broken ≡ stepPlaced a (a + n) (stepOf t (take n (drop a s)))
+    pub no-give-up : t ≡ 3 → (n ≡ 3 → ⊥) → Broken ≡ stepPlaced a (a + n) (stepOf t (take n (drop a s)))
     unfolding stepOf
-    no-give-up p q = rw (p, long, ne-eqb n 1 q)
+    no-give-up p q = rw (p, long, ne-eqb n 3 q)
 
     pub is-replaced : (x : ℕ) → t ≡ 4 → n ≡ 2 → x ≡ wordAt s a → Replaced x (a + n) ≡ stepPlaced a (a + n) (stepOf t (take n (drop a s)))
     unfolding stepOf

@@ -47,7 +47,7 @@ message-whole : (t : ℕ) (c m : List ℕ) → stepOf t c ≡ some (message m) �
 unfolding stepOf
 message-whole t c m =
     cases (eqb t 2) (λ e. rw e (λ p. cc))
-    (λ e. cases (eqb t 3 && eqb (length c) 1) (λ f. rw (e, f) (λ p. let z : _≡_ {A = ℕ} 0 1 = cc in absurd (omega arith)))
+    (λ e. cases (eqb t 3 && eqb (length c) 3) (λ f. rw (e, f) (λ p. let z : _≡_ {A = ℕ} 0 1 = cc in absurd (omega arith)))
     (λ f. cases (eqb t 4 && eqb (length c) 2) (λ g. rw (e, f, g) (λ p. let z : _≡_ {A = ℕ} 0 1 = cc in absurd (omega arith)))
     (λ g. rw (e, f, g) (λ p. let z : _≡_ {A = ℕ} 0 1 = cc in absurd (omega arith)))))
 
@@ -58,7 +58,7 @@ step-by s n t a k none e = refl
 step-by s n t a k (some (message m)) e =
     let l : a + k - a ≡ k = omega arith in
     rw (message-whole t (take k (drop a s)) m e, l)
-step-by s n t a k (some (give-up x)) e = refl
+step-by s n t a k (some (give-up x y)) e = refl
 step-by s n t a k (some (replaced x)) e = refl
 
 steps-in : (s : List ℕ) (n : ℕ) (r : Read) → stepsOf n (seen s r) ≡ stepsBy s n (stepFrom s r)
@@ -106,7 +106,7 @@ row-inside s at = row-inside-in s at (readAt s at) refl
 
 abbrev pub StepInside : List ℕ → ℕ → NextStep → Type 0
 StepInside s at (Message start next) = (at + 3 ≤ start) × (start ≤ next) × (next ≤ length s)
-StepInside s at (GiveUp t next) = (at + 3 ≤ next) × (next ≤ length s)
+StepInside s at (GiveUp t x next) = (at + 3 ≤ next) × (next ≤ length s)
 StepInside s at (Replaced x next) = (at + 3 ≤ next) × (next ≤ length s)
 StepInside s at Broken = Unit {0}
 StepInside s at Ended = Unit {0}
@@ -114,7 +114,7 @@ StepInside s at Ended = Unit {0}
 placed-step-inside : (s : List ℕ) (at a next : ℕ) (o : Option Step) → at + 3 ≤ a → a ≤ next → next ≤ length s → StepInside s at (stepPlaced a next o)
 placed-step-inside s at a next none h k l = tt
 placed-step-inside s at a next (some (message m)) h k l = (h, k, l)
-placed-step-inside s at a next (some (give-up t)) h k l = (omega arith, l)
+placed-step-inside s at a next (some (give-up t x)) h k l = (omega arith, l)
 placed-step-inside s at a next (some (replaced x)) h k l = (omega arith, l)
 
 step-inside-in : (s : List ℕ) (at : ℕ) (r : Read) → readAt s at ≡ r → StepInside s at (stepFrom s r)

@@ -43,15 +43,15 @@ rowOf c = cond (eqb (length c) 3 && leb (getD c 2 0) 1) (some (wordAt c 0, eqb (
 
 pub data Step : Type 0 where
   message : List ℕ → Step
-  give-up : ℕ → Step
+  give-up : (thread address : ℕ) → Step
   replaced : ℕ → Step
 
--- ''02' message; '03' give up (1 byte); '04' replaced (2 bytes)'
+-- ''02' message; '03' give up (3 bytes: thread, address); '04' replaced (2 bytes)'
 unfoldable pub stepOf : ℕ → List ℕ → Option Step
 stepOf t c =
     checks
     ((eqb t 2, some (message c))
-    ∷ (eqb t 3 && eqb (length c) 1, some (give-up (getD c 0 0)))
+    ∷ (eqb t 3 && eqb (length c) 3, some (give-up (getD c 0 0) (wordAt c 1)))
     ∷ (eqb t 4 && eqb (length c) 2, some (replaced (wordAt c 0)))
     ∷ [])
     none

@@ -52,7 +52,7 @@ rowAt s at = rowFrom s (readAt s at)
 abbrev pub stepPlaced : ℕ → ℕ → Option Step → NextStep
 stepPlaced start next none = Broken
 stepPlaced start next (some (message c)) = Message start next
-stepPlaced start next (some (give-up t)) = GiveUp t next
+stepPlaced start next (some (give-up t a)) = GiveUp t a next
 stepPlaced start next (some (replaced a)) = Replaced a next
 
 abbrev pub stepFrom : List ℕ → Read → NextStep
@@ -84,7 +84,7 @@ between s start next = take (next - start) (drop start s)
 
 abbrev pub stepsBy : List ℕ → ℕ → NextStep → Steps
 stepsBy s n (Message start next) = then (message (between s start next)) (stepsAt s (n + 1) next)
-stepsBy s n (GiveUp t next) = then (give-up t) (stepsAt s (n + 1) next)
+stepsBy s n (GiveUp t x next) = then (give-up t x) (stepsAt s (n + 1) next)
 stepsBy s n (Replaced x next) = then (replaced x) (stepsAt s (n + 1) next)
 stepsBy s n Broken = broken n
 stepsBy s n Ended = over

@@ -34,9 +34,19 @@ pub enum NextRow {
 
 // Asked at a place after the rows. A message's bytes go from its start to the next field.
 pub enum NextStep {
-    Message { start: usize, next: usize },
-    GiveUp { thread: u8, next: usize },
-    Replaced { address: u16, next: usize },
+    Message {
+        start: usize,
+        next: usize,
+    },
+    GiveUp {
+        thread: u8,
+        address: u16,
+        next: usize,
+    },
+    Replaced {
+        address: u16,
+        next: usize,
+    },
     Broken,
     End,
 }
@@ -126,9 +136,10 @@ fn step_in(s: &[u8], tag: u8, start: usize, long: usize) -> NextStep
         return NextStep::Message { start, next };
     }
     if tag == 3 {
-        if long == 1 {
+        if long == 3 {
             return NextStep::GiveUp {
                 thread: s[start],
+                address: word_at(s, start + 1),
                 next,
             };
         }

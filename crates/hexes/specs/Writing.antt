@@ -30,12 +30,14 @@ advanced c b =
     ∷ [])
     (cursor (c .tag) (c .high) (c .low) (c .at + 1))
 
--- where a group ends: after the tag, the length and the first two bytes; in a message also after source, type, thread and data length (Table 3)
+-- where a group ends: after the tag, the length and the first two bytes, or in a give up after its thread; in a message also after source, type,
+-- thread and data length (Table 3)
 unfoldable pub splitsAt : ℕ → ℕ → Bool
 splitsAt tag at =
     checks
     ((eqb at 1, true)
     ∷ (eqb at 3, true)
+    ∷ (eqb tag 3, eqb at 4)
     ∷ (eqb at 5, true)
     ∷ (not (eqb tag 2), false)
     ∷ (eqb at 7, true)

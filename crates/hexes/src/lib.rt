@@ -262,6 +262,9 @@ fn splits(tag: u8, at: usize) -> bool
     if at == 3 {
         return true;
     }
+    if tag == 3 {
+        return at == 4;
+    }
     if at == 5 {
         return true;
     }

@@ -22,7 +22,7 @@ use Rattle.rules.specs.declared.Outcome.{Outcome}
 use Rattle.rules.specs.declared.Outcome.the-variants.{Passed, Answered, Swallowed, Event, Turned, Given, Reset, Refused}
 use Rattle.rules.specs.Judge.{judge}
 use Rattle.rules.specs.Conduct.{Conduct}
-use Rattle.rules.proofs.Allowed.{Allowed, Innermost, allowed}
+use Rattle.rules.proofs.Allowed.{Allowed, Leaf, allowed}
 use Rattle.rules.proofs.Says.{says}
 use Rattle.rules.proofs.After.{exact-once}
 use Rattle.history.specs.History.{Step, Entry, entry, viewAfter, history, Sent, sent, standing, meets, ends, ended, endsWait, endsOne, isSwallowed, named, Went, Concerns}
@@ -31,11 +31,11 @@ use Rattle.history.proofs.Words.{ends-wait, ends-owing, ends-reset, aim
 use Rattle.history.proofs.Law.{conduct-after}
 use Rattle.history.proofs.Told.{stood, told, stands-as}
 
--- ---- the wait that an outcome ends is the innermost one of its thread, and the owing is there
+-- ---- the wait that an outcome ends is a leaf of its thread's tree, and the owing is there
 
 abbrev There : View → Outcome → Type 0
 There v o =
-    (endsWait o ≡ true → Innermost v (named o .asker) (named o .asked) (named o .thread))
+    (endsWait o ≡ true → Leaf v (named o .asker) (named o .asked) (named o .thread))
     × (isSwallowed o ≡ true → someOf (owesExactly (named o .asked) (named o .thread)) (v .places) ≡ true)
 
 pub there : (v : View) (o : Outcome) → Allowed v o → There v o
@@ -64,7 +64,7 @@ module _ (h : List Entry) (v : View) (c : Conduct v) (k : stood h (sent h) ≡ v
   ended-count o =
       length-keep (λ (d : Sent). meets (ends o) (standing h d)) (sent h) ∙ count-stood h (ends o) (sent h) ∙ ap (count (ends o)) k
 
-  pub found-one : (asker asked t : ℕ) → Innermost v asker asked t → count (asksExactly asked t) (v .places) ≡ 1
+  pub found-one : (asker asked t : ℕ) → Leaf v asker asked t → count (asksExactly asked t) (v .places) ≡ 1
   found-one asker asked t i =
       let s = first-meets (asksExactly asked t) (asksExactly asked t) (v .places) (i .it) (i .found) (first-yes (asksExactly asked t) (v .places) (i .it) (i .found)) in
       omega (arith, exact-once v c asked t, count-some (asksExactly asked t) (v .places) s)

@@ -97,7 +97,7 @@ replaced-run =
     step answer
     ∷ step (message (0x02 ∷ 0x02 ∷ 0x01 ∷ 0x00 ∷ 0xF0 ∷ 0x03 ∷ 0x00 ∷ 0x00 ∷ []))
     ∷ step (replaced 0x0202)
-    ∷ step (giveUp 3)
+    ∷ step (giveUp 3 0x0202)
     ∷ step ask
     ∷ []
 

@@ -9,4 +9,5 @@ pub mod Totals
 pub mod Marks
 pub mod Promise
 pub mod Example
+pub mod Branches
 pub mod Needed

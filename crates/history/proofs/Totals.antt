@@ -16,7 +16,7 @@ use Rattle.rules.specs.Judge.{judge}
 use Rattle.rules.specs.Apply.{placesAfter}
 use Rattle.places.proofs.Two.{waits-stay}
 use Rattle.rules.proofs.Waits.{waits-answered, waits-given, waits-swallowed, found-waits}
-use Rattle.rules.proofs.Allowed.{Allowed, Innermost, allowed}
+use Rattle.rules.proofs.Allowed.{Allowed, Leaf, allowed}
 use Rattle.history.specs.History.{Step, Entry, viewAfter, history, sent, isPassed, isAnswered, isGiven, total}
 
 -- each passed outcome is one command
@@ -25,7 +25,7 @@ accepted-sent [] = refl
 accepted-sent (e ∷ h) =
     split (isPassed (e .outcome)) (λ p. rw p (omega (arith, accepted-sent h))) (λ p. rw p (omega (arith, accepted-sent h)))
 
-ended-wait : (v : View) (asker asked t : ℕ) → Innermost v asker asked t
+ended-wait : (v : View) (asker asked t : ℕ) → Leaf v asker asked t
     → length (waits (v .places)) ≡ suc (length (without (asksExactly asked t) (waits (v .places))))
 ended-wait v asker asked t i = length-first (asksExactly asked t) (waits (v .places)) (i .it) (found-waits asked t (v .places) ∙ i .found)
 

@@ -27,8 +27,8 @@ read-reply s asked asker t k (Message h) e y =
 
 passed-on : (c : Call) (asked asker t k : ℕ) → Says c (Answered asked asker t k) → Reply (bytesOf c) asker asked t k
 passed-on (message s) asked asker t k y = read-reply s asked asker t k (readOf s) refl y
-passed-on (giveUp u) asked asker t k (inl e) = clash false e refl
-passed-on (giveUp u) asked asker t k (inr e) = let z = e .2 in differ (cc)
+passed-on (giveUp u a) asked asker t k (inl e) = clash false e refl
+passed-on (giveUp u a) asked asker t k (inr e) = let z = e .1 in differ (cc)
 passed-on (replaced a) asked asker t k (inl e) = clash false e refl
 passed-on (replaced a) asked asker t k (inr e) = differ (cc)
 

@@ -40,7 +40,7 @@ pub record Entry : Type 0 where
 -- the bytes of a call
 abbrev pub bytesOf : Call → List ℕ
 bytesOf (message s) = s
-bytesOf (giveUp t) = []
+bytesOf (giveUp t a) = []
 bytesOf (replaced a) = []
 
 -- 'the bytes to send are a part of the incoming buffer or of the reply buffer'; what stood in the reply buffer before does not show

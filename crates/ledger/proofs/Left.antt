@@ -42,14 +42,14 @@ module _ (s : List ℕ) (b : Book) (area : List ℕ) where
 
   lines-by : (n : ℕ) (x : NextStep) → linesOf n b area (stepsBy s n x) ≡ linesBy n (nextOf x)
   lines-by n (MessageStep a e) = refl
-  lines-by n (GiveUp t e) = refl
+  lines-by n (GiveUp t x e) = refl
   lines-by n (Replaced x e) = refl
   lines-by n BrokenStep = refl
   lines-by n Ended = refl
 
   store-by : (k n : ℕ) (x : NextStep) → after (suc k) b area (stepsBy s n x) ≡ storeBy k n (nextOf x)
   store-by k n (MessageStep a e) = refl
-  store-by k n (GiveUp t e) = refl
+  store-by k n (GiveUp t x e) = refl
   store-by k n (Replaced x e) = refl
   store-by k n BrokenStep = refl
   store-by k n Ended = refl
@@ -70,7 +70,7 @@ NextInside s at (Message start next) = (at + 3 ≤ start) × (start ≤ next) ×
 
 inside-by : (s : List ℕ) (at : ℕ) (x : NextStep) → StepInside s at x → NextInside s at (nextOf x)
 inside-by s at (MessageStep a e) h = h
-inside-by s at (GiveUp t e) h = tt
+inside-by s at (GiveUp t x e) h = tt
 inside-by s at (Replaced x e) h = tt
 inside-by s at BrokenStep h = tt
 inside-by s at Ended h = tt

@@ -28,7 +28,7 @@ plain-lines (then (message c) m) n b area law w =
     let r = as-plain b area law c blank (w .0) in
     let rest = plain-lines m (n + 1) (heard b area c .book) (heard b area c .area) (r .lawful) (w .1) ∙ ap (λ (files : List File). plainLines (n + 1) files m) (r .files) in
     λ i. saidLine n (r .answer i) (r .reply i) ∷ rest i
-plain-lines (then (give-up t) m) n b area law w = refl
+plain-lines (then (give-up t x) m) n b area law w = refl
 plain-lines (then (replaced x) m) n b area law w = refl
 
 pub plain-after : (k : ℕ) (m : Steps) (b : Book) (area : List ℕ) → Lawful b area → StepsBytes m → filesOf (after k b area m) ≡ plainAfter k (viewOf b area) m
@@ -38,7 +38,7 @@ plain-after (suc k) (broken n) b area law w = refl
 plain-after (suc k) (then (message c) m) b area law w =
     let r = as-plain b area law c blank (w .0) in
     plain-after k m (heard b area c .book) (heard b area c .area) (r .lawful) (w .1) ∙ ap (λ (files : List File). plainAfter k files m) (r .files)
-plain-after (suc k) (then (give-up t) m) b area law w = refl
+plain-after (suc k) (then (give-up t x) m) b area law w = refl
 plain-after (suc k) (then (replaced x) m) b area law w = refl
 
 -- ---- of an input, which is bytes

@@ -53,7 +53,7 @@ abbrev pub linesOf : ℕ → Book → List ℕ → Steps → List (List ℕ)
 linesOf n b area over = []
 linesOf n b area (broken k) = brokenLine k ∷ []
 linesOf n b area (then (message c) m) = lineOf n (heard b area c) ∷ linesOf (n + 1) (heard b area c .book) (heard b area c .area) m
-linesOf n b area (then (give-up t) m) = brokenLine n ∷ []
+linesOf n b area (then (give-up t x) m) = brokenLine n ∷ []
 linesOf n b area (then (replaced x) m) = brokenLine n ∷ []
 
 -- a book and its area
@@ -70,7 +70,7 @@ after zero b area m = store b area
 after (suc k) b area over = store b area
 after (suc k) b area (broken n) = store b area
 after (suc k) b area (then (message c) m) = after k (heard b area c .book) (heard b area c .area) m
-after (suc k) b area (then (give-up t) m) = store b area
+after (suc k) b area (then (give-up t x) m) = store b area
 after (suc k) b area (then (replaced x) m) = store b area
 
 -- ---- the same from a place on
@@ -93,7 +93,7 @@ prescribed s b area = linesLeft s b area start
 
 abbrev pub nextOf : NextStep → Next
 nextOf (MessageStep a e) = Message a e
-nextOf (GiveUp t e) = Broken
+nextOf (GiveUp t x e) = Broken
 nextOf (Replaced x e) = Broken
 nextOf BrokenStep = Broken
 nextOf Ended = End

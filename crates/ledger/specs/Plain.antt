@@ -23,7 +23,7 @@ abbrev pub plainLines : ℕ → List File → Steps → List (List ℕ)
 plainLines n files over = []
 plainLines n files (broken k) = brokenLine k ∷ []
 plainLines n files (then (message c) m) = plainLine n (told files c) ∷ plainLines (n + 1) (told files c .files) m
-plainLines n files (then (give-up t) m) = brokenLine n ∷ []
+plainLines n files (then (give-up t x) m) = brokenLine n ∷ []
 plainLines n files (then (replaced x) m) = brokenLine n ∷ []
 
 -- the files after so many lines
@@ -32,7 +32,7 @@ plainAfter zero files m = files
 plainAfter (suc k) files over = files
 plainAfter (suc k) files (broken n) = files
 plainAfter (suc k) files (then (message c) m) = plainAfter k (told files c .files) m
-plainAfter (suc k) files (then (give-up t) m) = files
+plainAfter (suc k) files (then (give-up t x) m) = files
 plainAfter (suc k) files (then (replaced x) m) = files
 
 -- all of an input's lines; one that is too long has one line, and no command of it is done

@@ -66,7 +66,11 @@ fn next_at(input: &[u8], at: usize) -> Next
 {
     match fields::step_at(input, at) {
         NextStep::Message { start, next } => Next::Message { start, next },
-        NextStep::GiveUp { thread: _, next: _ } => Next::Broken,
+        NextStep::GiveUp {
+            thread: _,
+            address: _,
+            next: _,
+        } => Next::Broken,
         NextStep::Replaced {
             address: _,
             next: _,

@@ -6,7 +6,7 @@ use native.Mathlib.Omega.{arith}
 use lib.ListN.{length, length-append}
 use Rattle.tapa.specs.Refusals.{numberOf}
 use Rattle.tapa.specs.declared.Refusal.{Refusal}
-use Rattle.tapa.specs.declared.Refusal.the-variants.{TooShort, TooLong, FewerThanAnnounced, NotInTable, ThreadAbove7, NoResponseCode, StrayResponse, WrongAsker, BufferTooSmall, EventCannotBeTaken, RowCountOrShape, Repeat, TooManyMulti, NothingToGiveUp, NotThisPartsMessage, StandsInAWait, NoSourceKept, StatusNotUsable, MoreThanAnnounced}
+use Rattle.tapa.specs.declared.Refusal.the-variants.{TooShort, TooLong, FewerThanAnnounced, NotInTable, ThreadAbove7, NoResponseCode, StrayResponse, WrongAsker, BufferTooSmall, EventCannotBeTaken, RowCountOrShape, Repeat, TooManyMulti, NothingToGiveUp, NotThisPartsMessage, StandsInAWait, NoSourceKept, StatusNotUsable, MoreThanAnnounced, HoldsAQuestion}
 use Rattle.text.specs.Text.{ascii, decimalOf, hexesOf}
 use Rattle.text.proofs.Laws.{five-digits, hexes-length}
 use Rattle.rules.specs.declared.Outcome.{Outcome}
@@ -35,6 +35,7 @@ few StandsInAWait = omega arith
 few NoSourceKept = omega arith
 few StatusNotUsable = omega arith
 few MoreThanAnnounced = omega arith
+few HoldsAQuestion = omega arith
 
 counted-short : (word : List ℕ) (n : ℕ) → n < 100000 → length (counted word n) ≤ length word + 5
 counted-short word n h = omega (arith, length-append word (decimalOf n), five-digits n h)

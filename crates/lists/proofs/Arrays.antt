@@ -1,7 +1,7 @@
 -- Laws of an array that holds a list: what is read, and each change in place. Rows and places are two uses of it.
 use Prim.Native.Nat.{ℕ, zero, suc, _+_, _-_, _≤_, _<_}
 use mathlib.Core.Path.{_≡_, refl, sym, ap, _∙_}
-use mathlib.Core.Bool.{Bool, true, false}
+use mathlib.Core.Bool.{Bool, true, false, _||_, or-true}
 use mathlib.Core.List.{List, [], _∷_}
 use mathlib.Core.Option.{some}
 use native.Mathlib.Nat.{not-suc-le-zero}
@@ -74,6 +74,13 @@ module _ {A : Type 0} (unpack : ℕ → A) where
       pub some-past : {r : Bool} → someOf q (held unpack l i) ≡ r → q (unpack (getD l (i - 1) 0)) ≡ false → someOf q (held unpack l (i - 1)) ≡ r
       some-past e t = sym (ap (someOf q) back-one ∙ rw t) ∙ e
 
+      -- the same where b says whether one of those passed was met
+      pub met-here : (b : Bool) {r : Bool} → (b || someOf q (held unpack l i)) ≡ r → q (unpack (getD l (i - 1) 0)) ≡ true → true ≡ r
+      met-here b e t = sym (ap (λ (xs : List A). b || someOf q xs) back-one ∙ rw (t, or-true b)) ∙ e
+
+      pub met-past : (b : Bool) {r : Bool} → (b || someOf q (held unpack l i)) ≡ r → q (unpack (getD l (i - 1) 0)) ≡ false → (b || someOf q (held unpack l (i - 1))) ≡ r
+      met-past b e t = sym (ap (λ (xs : List A). b || someOf q xs) back-one ∙ rw t) ∙ e
+
   -- at its end nothing is left to look at
   pub walked : {R : Type 0} (g : List A → R) (l : List ℕ) (i : ℕ) {r : R} → i ≡ 0 → g (held unpack l i) ≡ r → g [] ≡ r
   walked g l i e h = ap (λ (k : ℕ). g (held unpack l k)) (sym e) ∙ h
@@ -86,6 +93,21 @@ module _ {A : Type 0} (unpack : ℕ → A) where
 
     pub count-miss : q (unpack (getD l i 0)) ≡ false → m ≡ count q (held unpack l (i + 1))
     count-miss t = rw (add-one i, t) (omega arith)
+
+  -- ---- a test and a search, on the way up
+
+  module _ (q : A → Bool) (l : List ℕ) (i : ℕ) where
+    pub some-hit : q (unpack (getD l i 0)) ≡ true → true ≡ someOf q (held unpack l (i + 1))
+    some-hit t = rw (add-one i, t)
+
+    pub some-miss : {b : Bool} → b ≡ someOf q (held unpack l i) → q (unpack (getD l i 0)) ≡ false → b ≡ someOf q (held unpack l (i + 1))
+    some-miss e t = rw (add-one i, t) e
+
+    pub find-hit : q (unpack (getD l i 0)) ≡ true → At i ≡ find q (held unpack l (i + 1))
+    find-hit t = rw (add-one i, t, len l i)
+
+    pub find-miss : {f : Found} → f ≡ find q (held unpack l i) → q (unpack (getD l i 0)) ≡ false → f ≡ find q (held unpack l (i + 1))
+    find-miss e t = rw (add-one i, t) e
 
   -- ---- what was found: its cell, and that it passes
 

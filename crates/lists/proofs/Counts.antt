@@ -90,6 +90,10 @@ module _ {A : Type 0} where
   keep-nothing q (x ∷ l) e =
       split (q x) (λ p. let f : x ∷ keep q l ≡ [] = rw p at e in differ (cc)) (λ p. rw p (keep-nothing q l (rw p at e)))
 
+  pub keep-some : (q : A → Bool) (l : List A) (x : A) (m : List A) → keep q l ≡ x ∷ m → someOf q l ≡ true
+  keep-some q [] x m e = differ (cc)
+  keep-some q (y ∷ l) x m e = split (q y) (λ p. rw p) (λ p. rw p (keep-some q l x m (rw p at e)))
+
   -- ---- a list that is turned round
 
   some-onto : (q : A → Bool) (l r : List A) → someOf q (reverseAux l r) ≡ someOf q l || someOf q r

@@ -8,8 +8,8 @@ use native.Mathlib.Nat.{le-of-eq}
 use native.Mathlib.Omega.{arith}
 use lib.ListN.{length}
 use Rattle.lists.proofs.Counts.{keep-all}
-use Rattle.lists.proofs.Tests.{clash, differ, or-no, split}
-use Rattle.lists.specs.Lists.{All, changed, count, find, first, keep, one, someOf, without}
+use Rattle.lists.proofs.Tests.{differ, or-no, split}
+use Rattle.lists.specs.Lists.{All, changed, count, first, keep, one, someOf, without}
 
 module _ {A : Type 0} where
   -- ---- the first that passes
@@ -25,23 +25,6 @@ module _ {A : Type 0} where
   first-meets q r (y ∷ l) x e p =
       split (r y) (λ b. let k : y ≡ x = (let f : some y ≡ some x = rw b at e in cc) in let m : q y ≡ true = rw k p in rw m)
       (λ b. rw (first-meets q r l x (rw b at e) p, or-true))
-
-  -- the first to pass a weaker test, if it passes the stronger one, is the first to pass that
-  pub record Strong (q r : A → Bool) (l : List A) (x : A) : Type 0 where
-    pub found : first q l ≡ some x
-    pub at : find q l ≡ find r l
-    pub taken : without q l ≡ without r l
-    pub turned : (g : A → A) → changed g q l ≡ changed g r l
-
-  pub first-strong : (q r : A → Bool) → ((x : A) → q x ≡ true → r x ≡ true) → (l : List A) (x : A) → first r l ≡ some x → q x ≡ true → Strong q r l x
-  first-strong q r f [] x e p = differ (cc)
-  first-strong q r f (y ∷ l) x e p =
-      split (r y)
-      (λ b. let k : y ≡ x = (let g : some y ≡ some x = rw b at e in cc) in let py : q y ≡ true = rw k p in
-      record { found = rw (py, k); at = rw (b, py); taken = rw (b, py); turned = λ g. rw (b, py) })
-      (λ b. let py : q y ≡ false = split (q y) (λ g. clash (r y) (f y g) b) (λ g. g) in
-      let ih = first-strong q r f l x (rw b at e) p in
-      record { found = rw py (ih .found); at = rw (b, py, ih .at); taken = rw (b, py, ih .taken); turned = λ g. rw (b, py, ih .turned g) })
 
   -- where none is first, none passes
   pub none-passes : (q : A → Bool) (l : List A) → first q l ≡ none → someOf q l ≡ false

@@ -40,14 +40,14 @@ isOwed x = x .owed
 abbrev pub onThread : ℕ → Place → Bool
 onThread t x = eqb (x .thread) t
 
--- 'A thread's waits form its chain; the last is innermost': the first of these
+-- 'A thread's waits become a tree': these
 abbrev pub openOn : ℕ → Place → Bool
 openOn t x = isOpen x && onThread t x
 
 abbrev pub owedOn : ℕ → Place → Bool
 owedOn t x = isOwed x && onThread t x
 
--- a wait of the thread that has exactly this asked address
+-- a wait of the thread that has exactly this asked address: a response answers it, and a give up names it
 abbrev pub asksExactly : ℕ → ℕ → Place → Bool
 asksExactly a t x = openOn t x && eqb (x .asked) a
 
@@ -63,16 +63,20 @@ asks h x = eqb (handlerOf (x .asked)) h
 abbrev pub stands : ℕ → Place → Bool
 stands h x = eqb (handlerOf (x .asker)) h || asks h x
 
--- 'stands in this thread's chain as asker or asked'
+-- 'stands in this thread's tree as asker or asked'
 abbrev pub standsOn : ℕ → ℕ → Place → Bool
 standsOn t h x = openOn t x && stands h x
+
+-- 'holds [an] open question itself on that thread': a wait of the thread that h asked
+abbrev pub holdsOn : ℕ → ℕ → Place → Bool
+holdsOn t h x = openOn t x && eqb (handlerOf (x .asker)) h
 
 -- 'handler stands in a wait as asker or asked'
 abbrev pub standsIn : ℕ → Place → Bool
 standsIn h x = isOpen x && stands h x
 
 -- 'is single and asked or owing on any thread; or is multi and owing on this thread'. A multi handler that is asked on this
--- thread stands in its chain, and is let through no more than one that is owing.
+-- thread stands in its tree, and is let through no more than one that is owing.
 abbrev pub onSlot : ℕ → ℕ → Place → Bool
 onSlot h t x = asks h x && (not (multi h) || onThread t x)
 
@@ -83,7 +87,7 @@ owedBy h x = isOwed x && asks h x
 abbrev pub notOwedBy : ℕ → Place → Bool
 notOwedBy h x = not (owedBy h x)
 
--- 'The innermost wait becomes an owing'
+-- a wait that is given up 'becomes an owing'
 abbrev pub owing : Place → Place
 owing x = record {
   asker = x .asker;

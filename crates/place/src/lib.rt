@@ -4,7 +4,7 @@
 // asked address and asker, and the mark of an owing on top, so that giving a wait up only sets a
 // mark. The tests are asked of the number, as the list of places keeps it.
 ghost use mathlib.Core.Path.{_≡_};
-ghost use Rattle.place.specs.Place.{unpack, Packed, openOn, owesExactly, stands, standsOn, standsIn, onSlot, owedBy};
+ghost use Rattle.place.specs.Place.{unpack, Packed, openOn, asksExactly, owesExactly, stands, standsOn, holdsOn, standsIn, onSlot, owedBy};
 
 // A passed command: exact asker, exact asked address, type, thread, and whether it was given up.
 pub struct Place {
@@ -55,6 +55,17 @@ pub fn open_on(x: u64, thread: u8) -> bool
     place.thread == thread
 }
 
+// Whether it is a wait of this thread that asks exactly this address.
+pub fn asks_exactly(x: u64, asked: u16, thread: u8) -> bool
+    ensures { λ r. ⌜ r ≡ asksExactly asked thread (unpack x) ⌝ }
+{
+    if !open_on(x, thread) {
+        return false;
+    }
+    let place = place_of(x);
+    place.asked == asked
+}
+
 // Whether it is an owing on this thread of exactly this asked address.
 pub fn owes_exactly(x: u64, asked: u16, thread: u8) -> bool
     ensures { λ r. ⌜ r ≡ owesExactly asked thread (unpack x) ⌝ }
@@ -86,6 +97,17 @@ pub fn has_on(x: u64, thread: u8, handler: u16) -> bool
         return false;
     }
     has(place_of(x), handler)
+}
+
+// Whether it is a wait of this thread that the handler asked.
+pub fn holds_on(x: u64, thread: u8, handler: u16) -> bool
+    ensures { λ r. ⌜ r ≡ holdsOn thread handler (unpack x) ⌝ }
+{
+    if !open_on(x, thread) {
+        return false;
+    }
+    let place = place_of(x);
+    tapa::handler(place.asker) == handler
 }
 
 // Whether it is a wait of any thread in which the handler stands as asker or asked.

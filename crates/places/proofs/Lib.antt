@@ -1,3 +1,4 @@
 pub mod Once
 pub mod Points
 pub mod Two
+pub mod Leaves

@@ -1,11 +1,19 @@
 -- The passed commands that are not done with: what their list is. The words on one of them are passed on from room place.
 use Prim.Native.Nat.{ℕ}
+use mathlib.Core.Bool.{Bool, cond}
 use mathlib.Core.List.{List}
 use lib.ListN.{getD}
-use Rattle.lists.specs.Lists.{keep}
+use Rattle.lists.specs.declared.Found.{Found}
+use Rattle.lists.specs.declared.Found.the-variants as found
+use Rattle.lists.specs.Lists.{someOf, find, keep}
 use Rattle.lists.specs.Arrays.{held, Holding, Becoming, pushed as pushedTo}
+use Rattle.tapa.specs.Address.{handlerOf}
 use Rattle.place.specs.declared.Place.{Place}
-pub use Rattle.place.specs.Place.{pack, unpack, Packed, isOpen, isOwed, onThread, openOn, owedOn, asksExactly, owesExactly, asks, stands, standsOn, standsIn, onSlot, owedBy, notOwedBy, owing}
+pub use Rattle.place.specs.Place.{pack, unpack, Packed, isOpen, isOwed, onThread, openOn, owedOn, asksExactly, owesExactly, asks, stands, standsOn, holdsOn, standsIn, onSlot, owedBy, notOwedBy, owing}
+use Rattle.places.specs.declared.Leaf.{Leaf}
+use Rattle.places.specs.declared.Leaf.the-variants.{At, Holds, Missing}
+use Rattle.places.specs.declared.Standing.{Standing}
+use Rattle.places.specs.declared.Standing.the-variants.{Within, Outside, Empty}
 
 -- the place with a number
 abbrev pub placeAt : List ℕ → ℕ → Place
@@ -32,3 +40,21 @@ waits ps = keep isOpen ps
 
 abbrev pub owings : List Place → List Place
 owings ps = keep isOwed ps
+
+-- ---- a thread's tree
+
+-- the handler of the address a holds an open question itself on the thread t
+abbrev pub holding : List Place → (a t : ℕ) → Bool
+holding ps a t = someOf (holdsOn t (handlerOf a)) ps
+
+-- the number of the wait of the thread t that asks exactly a, a leaf where its handler holds no question there
+abbrev pub leafBy : (holds : Bool) → Found → Leaf
+leafBy b found.Nothing = Missing
+leafBy b (found.At i) = cond b Holds (At i)
+
+unfoldable pub leafOf : (a t : ℕ) → List Place → Leaf
+leafOf a t ps = leafBy (holding ps a t) (find (asksExactly a t) ps)
+
+-- where the handler h stands to the thread's tree
+unfoldable pub standingOf : (t h : ℕ) → List Place → Standing
+standingOf t h ps = cond (someOf (openOn t) ps) (cond (someOf (standsOn t h) ps) Within Outside) Empty

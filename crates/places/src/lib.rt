@@ -4,8 +4,8 @@
 // the caller lends the 48 numbers and says how many are in use. They stand oldest first, and a
 // free cell is 0.
 //
-// The contracts read the list newest first (`placesOf`), so that the innermost wait of a thread is
-// the first open place on it, and a place's number is how many places are older: its index.
+// The contracts read the list newest first (`placesOf`), so that a place's number is how many places
+// are older: its index.
 //
 // The law of a list (`Lawful`) is that of any array that holds a list (room lists, Arrays). A
 // change keeps the law, and the places with the law leave one array possible: proofs/Once.antt.
@@ -13,10 +13,26 @@ use lists::Found;
 use place::Place;
 ghost use mathlib.Core.Path.{_≡_};
 ghost use Rattle.lists.specs.Lists.{find, someOf, keep, withoutAt, changedAt};
-ghost use Rattle.places.specs.Places.{placesOf, placeAt, Lawful, Becomes, pushed, owing};
-ghost use Rattle.places.specs.Places.{openOn, owesExactly, standsOn, standsIn, onSlot, notOwedBy};
+ghost use Rattle.places.specs.Places.{placesOf, placeAt, Lawful, Becomes, pushed, owing, leafBy, leafOf, standingOf};
+ghost use Rattle.places.specs.Places.{owesExactly, standsOn, standsIn, onSlot, notOwedBy};
 
-// ---- what the list is asked; a walk goes from the newest place to the oldest
+// What a thread's tree has of an exact address: the number of the wait that asks it, a leaf; that
+// the handler of that wait holds a question of its own on the thread; or no such wait.
+pub enum Leaf {
+    At(usize),
+    Holds,
+    Missing,
+}
+
+// Where a handler stands to a thread's tree: in one of its waits as asker or asked, in none of them,
+// or there is no wait.
+pub enum Standing {
+    Within,
+    Outside,
+    Empty,
+}
+
+// ---- what the list is asked; a walk goes over it once
 
 // The place with a number; past the count it is one of zeros.
 pub fn place_at(list: &[u64; 48], n: usize, at: usize) -> Place
@@ -29,19 +45,64 @@ pub fn place_at(list: &[u64; 48], n: usize, at: usize) -> Place
     place::place_of(0)
 }
 
-// The innermost wait of a thread.
-pub fn innermost(list: &[u64; 48], n: usize, thread: u8) -> Found
-    requires { ⌜ Lawful (now list) n ⌝ }
-    ensures { λ r. ⌜ r ≡ find (openOn thread) (placesOf (now (list .entry)) n) ⌝ }
+// A wait that was found is a leaf, unless its handler holds a question.
+fn leaf_by(holds: bool, found: Found) -> Leaf
+    ensures { λ r. ⌜ r ≡ leafBy holds found ⌝ }
 {
+    match found {
+        Found::Nothing => Leaf::Missing,
+        Found::At(i) => {
+            if holds {
+                return Leaf::Holds;
+            }
+            Leaf::At(i)
+        }
+    }
+}
+
+// The wait of a thread that asks exactly this address, and whether its handler holds a question on
+// the thread: one walk tells both.
+pub fn leaf_at(list: &[u64; 48], n: usize, asked: u16, thread: u8) -> Leaf
+    requires { ⌜ Lawful (now list) n ⌝ }
+    ensures { λ r. ⌜ r ≡ leafOf asked thread (placesOf (now (list .entry)) n) ⌝ }
+{
+    let handler = tapa::handler(asked);
+    let mut found = Found::Nothing;
+    let mut holds = false;
+    let mut i = 0;
+    while i < n {
+        if place::asks_exactly(list[i], asked, thread) {
+            found = Found::At(i);
+        }
+        if place::holds_on(list[i], thread, handler) {
+            holds = true;
+        }
+        i += 1;
+    }
+    leaf_by(holds, found)
+}
+
+// Where a handler stands to a thread's tree: one walk tells whether it is in it, and whether there is
+// one at all.
+pub fn standing_of(list: &[u64; 48], n: usize, thread: u8, handler: u16) -> Standing
+    requires { ⌜ Lawful (now list) n ⌝ }
+    ensures { λ r. ⌜ r ≡ standingOf thread handler (placesOf (now (list .entry)) n) ⌝ }
+{
+    let mut waits = false;
     let mut i = n;
     while 0 < i {
         i -= 1;
+        if place::has_on(list[i], thread, handler) {
+            return Standing::Within;
+        }
         if place::open_on(list[i], thread) {
-            return Found::At(i);
+            waits = true;
         }
     }
-    Found::Nothing
+    if waits {
+        return Standing::Outside;
+    }
+    Standing::Empty
 }
 
 // The owing on a thread of exactly this asked address.

@@ -29,8 +29,9 @@ module _ (r : Router) (x y : Routed) where
   pub one-route : (message before after after′ : List ℕ) → Routes r message before after x → Routes r message before after′ y → (x ≡ y) × (after ≡ after′)
   one-route message before after after′ = one-routing _ r before after after′ x y
 
-  pub one-give-up : (thread : ℕ) (before after after′ : List ℕ) → GivesUp r thread before after x → GivesUp r thread before after′ y → (x ≡ y) × (after ≡ after′)
-  one-give-up thread before after after′ = one-routing _ r before after after′ x y
+  pub one-give-up : (thread address : ℕ) (before after after′ : List ℕ) → GivesUp r thread address before after x → GivesUp r thread address before after′ y
+      → (x ≡ y) × (after ≡ after′)
+  one-give-up thread address before after after′ = one-routing _ r before after after′ x y
 
   pub one-replaced : (address : ℕ) → Replaces r address x → Replaces r address y → x ≡ y
   one-replaced address = one-replacing _ r x y

@@ -55,13 +55,13 @@ module _ (r : Router) (g : Lawful r) (room : ℕ) (call : Call) where
       record { outcome = y .outcome; view = y .view; law = y .law; reply = x .reply }
 
 -- a give up looks at no row and moves none
-pub gives-up : (r : Router) → Lawful r → (t : ℕ) (l before after : List ℕ) (s : Step)
-    → Writing (judgeGiveUp (viewOf r) (length before) t) (viewOf r .places) l before after s
-    → Routing (judgeGiveUp (viewOf r) (length before) t) r before after
+pub gives-up : (r : Router) → Lawful r → (t a : ℕ) (l before after : List ℕ) (s : Step)
+    → Writing (judgeGiveUp (viewOf r) (length before) t a) (viewOf r .places) l before after s
+    → Routing (judgeGiveUp (viewOf r) (length before) t a) r before after
     (record { outcome = s .outcome; next = record { list = l; len = s .len; cells = r .cells; count = r .count } })
-gives-up r g t l before after s x =
-    routes r g (length before) (giveUp t) (r .cells) l before after s
-    (record { moving = record { placing = x .placing; table = record { holds = give-up-rows (viewOf r) (length before) t; law = g .column } }; reply = x .reply })
+gives-up r g t a l before after s x =
+    routes r g (length before) (giveUp t a) (r .cells) l before after s
+    (record { moving = record { placing = x .placing; table = record { holds = give-up-rows (viewOf r) (length before) t a; law = g .column } }; reply = x .reply })
 
 -- ---- a lawful state is known by its view
 

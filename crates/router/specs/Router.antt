@@ -43,8 +43,8 @@ pub record Replacing (o : Outcome) (r : Router) (out : Routed) : Type 0 where
 abbrev pub Routes : Router → (message before after : List ℕ) → Routed → Type 0
 Routes r message before after out = Routing (judgeMessage (viewOf r) (length before) message) r before after out
 
-abbrev pub GivesUp : Router → (thread : ℕ) → (before after : List ℕ) → Routed → Type 0
-GivesUp r t before after out = Routing (judgeGiveUp (viewOf r) (length before) t) r before after out
+abbrev pub GivesUp : Router → (thread address : ℕ) → (before after : List ℕ) → Routed → Type 0
+GivesUp r t a before after out = Routing (judgeGiveUp (viewOf r) (length before) t a) r before after out
 
 abbrev pub Replaces : Router → (address : ℕ) → Routed → Type 0
 Replaces r a out = Replacing (judgeReplaced (viewOf r) a) r out

@@ -46,13 +46,13 @@ impl Router {
         Routed { outcome, next }
     }
 
-    pub fn give_up(self, thread: u8, reply: &mut [u8]) -> Routed
+    pub fn give_up(self, thread: u8, asked: u16, reply: &mut [u8]) -> Routed
         requires { ⌜ Lawful self ⌝ }
-        ensures { λ r. ⌜ GivesUp self thread (now (reply .entry)) (now (reply .exit)) r ⌝ }
+        ensures { λ r. ⌜ GivesUp self thread asked (now (reply .entry)) (now (reply .exit)) r ⌝ }
     {
         let cells = self.cells;
         let mut list = self.list;
-        let step = routing::on_give_up(&mut list, self.len, thread, reply);
+        let step = routing::on_give_up(&mut list, self.len, thread, asked, reply);
         let outcome = step.outcome;
         let next = Router {
             list,

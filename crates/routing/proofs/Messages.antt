@@ -1,14 +1,13 @@
 -- A message by its type, a give up, and a replaced call: what is done.
 use Prim.Native.Nat.{ℕ, _≤_}
-use mathlib.Core.Path.{_≡_, refl, sym, ap, subst, _∙_}
-use mathlib.Core.Bool.{true, false}
+use mathlib.Core.Path.{_≡_, refl, _∙_}
+use mathlib.Core.Bool.{false}
 use mathlib.Core.List.{List}
 use lib.ListN.{length}
-use borrow.Author.Tests.{eqb-true, le-ltb}
+use borrow.Author.Tests.{le-ltb}
 use Rattle.lists.specs.declared.Found.the-variants.{At}
 use Rattle.lists.specs.Lists.{find, keep, changedAt, onto}
-use Rattle.lists.proofs.Tests.{split, eqb-same}
-use Rattle.lists.proofs.First.{first-strong}
+use Rattle.lists.proofs.Tests.{split}
 use Rattle.lists.proofs.Numbers.{change-found}
 use Rattle.tapa.specs.Codes.{handlerError, eventHandler}
 use Rattle.tapa.specs.declared.Refusal.the-variants.{EventCannotBeTaken}
@@ -16,16 +15,13 @@ use Rattle.message.specs.declared.Head.{Head}
 use Rattle.message.specs.declared.Coded.{Coded}
 use Rattle.message.specs.Message.{responded, responseOf}
 use Rattle.table.specs.Table.{openedAt, rowsOf, Column, Opened}
-use Rattle.place.specs.declared.Place.{Place}
-use Rattle.places.specs.Places.{placeAt, placesOf, openOn, asksExactly, notOwedBy, owing, Becomes}
+use Rattle.places.specs.Places.{placesOf, asksExactly, notOwedBy, owing, Becomes}
 use Rattle.places.specs.Places as places
-use Rattle.places.proofs.Points.{here}
 use Rattle.rules.specs.View.{View}
 use Rattle.rules.specs.declared.Outcome.{Outcome}
 use Rattle.rules.specs.declared.Outcome.the-variants.{Event, Given, Reset, Refused}
 use Rattle.rules.specs.Judge.{judgeResponse, judgeEvent, judgeCommand}
 use Rattle.rules.specs.Apply.{written, rowsAfter, placesAfter}
-use Rattle.rules.proofs.Waits.{exact-on, open-thread}
 use Rattle.rules.proofs.Untouched.{command-rows, response-writes}
 use Rattle.ruling.specs.Ruling.{heldView}
 use Rattle.routing.specs.declared.Step.{Step}
@@ -76,39 +72,23 @@ step-as u o v c n l b after s e x = rw e x
 
 -- ---- Give up
 
--- the innermost wait becomes an owing, and its asker gets a response
-module _ (l : List ℕ) (n t i : ℕ) (f : find (openOn t) (placesOf l n) ≡ At i) (o : Outcome) (m b after : List ℕ) (k : 10 ≤ length b)
-    (x : Becomes m n (changedAt owing i (placesOf l n))) where
-  abbrev Gives : Place → Type 0
-  Gives w =
-      o ≡ Given (w .asker) (w .asked) (w .thread)
-      → after ≡ responded (w .asker) (w .asked) (w .thread) handlerError b
-      → Writing o (placesOf l n) m b after (record { outcome = Given (w .asker) (w .asked) (w .thread); len = n })
-
-  its-own : find (asksExactly (placeAt l i .asked) (placeAt l i .thread)) (placesOf l n) ≡ At i
-  its-own =
-      let h = here (openOn t) l n i f in
-      let z : placeAt l i .thread ≡ t = eqb-true (placeAt l i .thread) t (open-thread t (placeAt l i) (h .meets)) in
-      let s : asksExactly (placeAt l i .asked) t (placeAt l i) ≡ true = rw (h .meets, eqb-same (placeAt l i .asked)) in
-      ap (λ (u : ℕ). find (asksExactly (placeAt l i .asked) u) (placesOf l n)) z
-      ∙ first-strong (asksExactly (placeAt l i .asked) t) (openOn t) (exact-on (placeAt l i .asked) t) (placesOf l n) (placeAt l i) (h .it) s .at ∙ f
-
-  gives-it : Gives (placeAt l i)
-  gives-it e w =
-      let s : after ≡ onto (responseOf (placeAt l i .asker) (placeAt l i .asked) (placeAt l i .thread) handlerError) b = w ∙ rw (le-ltb (length b) 10 k) in
-      rw e (record {
-        placing = record {
-          outcome = refl;
-          places = record {
-            holds = x .holds ∙ change-found owing (asksExactly (placeAt l i .asked) (placeAt l i .thread)) (placesOf l n) i its-own;
-            law = x .law;
-          };
-        };
-        reply = s;
-      })
-
-  pub gives : (w : Place) → w ≡ placeAt l i → Gives w
-  gives w p = subst Gives (sym p) gives-it
+-- the wait that was found becomes an owing, and its asker gets a response
+pub gives : (l : List ℕ) (n t a i : ℕ) (o : Outcome) (m b after : List ℕ) (asker : ℕ)
+    → find (asksExactly a t) (placesOf l n) ≡ At i
+    → 10 ≤ length b
+    → Becomes m n (changedAt owing i (placesOf l n))
+    → o ≡ Given asker a t
+    → after ≡ responded asker a t handlerError b
+    → Writing o (placesOf l n) m b after (record { outcome = Given asker a t; len = n })
+gives l n t a i o m b after asker f k x e w =
+    let s : after ≡ onto (responseOf asker a t handlerError) b = w ∙ rw (le-ltb (length b) 10 k) in
+    rw e (record {
+      placing = record {
+        outcome = refl;
+        places = record { holds = x .holds ∙ change-found owing (asksExactly a t) (placesOf l n) i f; law = x .law };
+      };
+      reply = s;
+    })
 
 -- ---- Replaced
 

@@ -43,11 +43,11 @@ module _ (list l l′ : RefT (List ℕ)) (k : ℕ) (s s′ : Step) where
         → (s ≡ s′) × (now l ≡ now l′) × (now c ≡ now c′)
     one-on-replaced address = one-moving _ (now l) (now l′) s s′ _ (now c) (now c′) n
 
-  pub one-on-give-up : (thread : ℕ) (reply b b′ : RefT (List ℕ))
-      → OnGiveUp (lent list l) k thread (lent reply b) s
-      → OnGiveUp (lent list l′) k thread (lent reply b′) s′
+  pub one-on-give-up : (thread address : ℕ) (reply b b′ : RefT (List ℕ))
+      → OnGiveUp (lent list l) k thread address (lent reply b) s
+      → OnGiveUp (lent list l′) k thread address (lent reply b′) s′
       → (s ≡ s′) × (now l ≡ now l′) × (now b ≡ now b′)
-  one-on-give-up thread reply b b′ f g =
+  one-on-give-up thread address reply b b′ f g =
       let x = f [] in let y = g [] in
       let p = one-placing _ (now l) (now l′) s s′ _ (x .placing) (y .placing) in
       (p .0, p .1, x .reply ∙ sym (y .reply))

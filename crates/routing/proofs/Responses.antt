@@ -24,7 +24,6 @@ use Rattle.rules.specs.Apply.{answeredRows}
 use Rattle.rules.proofs.Steps.{late-swallowed, late-stray}
 use Rattle.rules.proofs.Untouched.{late-rows}
 use Rattle.ruling.specs.Ruling.{heldView}
-use Rattle.ruling.proofs.Answers.{Answers}
 use Rattle.routing.specs.Steps.{Placing, Moving, OpenOrClosed}
 
 -- ---- a late response
@@ -79,17 +78,21 @@ module _ (c : List ℕ) (n : ℕ) (l : List ℕ) (k : ℕ) (o : Outcome) where
       → Moving o (heldView c n l k) c n m (record { outcome = u; len = less })
   late-moves h m less u e g p = rw e (record { placing = p; table = record { holds = late-rows (heldView c n l k) h; law = g } })
 
-  pub answers : (after m : List ℕ) (less i code source dest t : ℕ)
+  pub answers : (after m : List ℕ) (less i code source dest t : ℕ) (u : Outcome)
+      → u ≡ Answered source dest t code
       → o ≡ Answered source dest t code
-      → Answers l k source t i
+      → find (asksExactly source t) (placesOf l k) ≡ At i
       → OpenOrClosed c after n (placeAt l i) code
       → Becomes m less (withoutAt i (placesOf l k))
-      → Moving o (heldView c n l k) after n m (record { outcome = Answered source dest t code; len = less })
-  answers after m less i code source dest t e x r b =
+      → Moving o (heldView c n l k) after n m (record { outcome = u; len = less })
+  answers after m less i code source dest t u d e f r b =
       rw e (record {
         placing = record {
-          outcome = refl;
-          places = record { holds = b .holds ∙ end-found (asksExactly source t) (placesOf l k) i (x .found); law = b .law };
+          outcome = d;
+          places = record { holds = b .holds ∙ end-found (asksExactly source t) (placesOf l k) i f; law = b .law };
         };
-        table = record { holds = r .holds ∙ ap (λ (w : Option Place). answeredRows w code (rowsOf c n)) (sym (x .first-is)); law = r .law };
+        table = record {
+          holds = r .holds ∙ ap (λ (w : Option Place). answeredRows w code (rowsOf c n)) (sym (here (asksExactly source t) l k i f .it));
+          law = r .law;
+        };
       })

@@ -71,9 +71,9 @@ OnMessage cells n list k message reply s =
     Stepped (judgeMessage (viewIn cells n list k) (length (now (reply .entry))) (now (message .entry))) cells n list k reply s
 
 -- a give up looks at no row: this holds of any
-abbrev pub OnGiveUp : (list : Lent) → (k thread : ℕ) → (reply : Lent) → Step → Type 0
-OnGiveUp list k t reply s =
-    (rows : List Row) → Wrote (judgeGiveUp (record { rows = rows; places = placesIn list k }) (length (now (reply .entry))) t) list k reply s
+abbrev pub OnGiveUp : (list : Lent) → (k thread address : ℕ) → (reply : Lent) → Step → Type 0
+OnGiveUp list k t a reply s =
+    (rows : List Row) → Wrote (judgeGiveUp (record { rows = rows; places = placesIn list k }) (length (now (reply .entry))) t a) list k reply s
 
 abbrev pub OnReplaced : (cells : Lent) → (n : ℕ) → (list : Lent) → (k address : ℕ) → Step → Type 0
 OnReplaced cells n list k a s = Moved (judgeReplaced (viewIn cells n list k) a) cells n list k s

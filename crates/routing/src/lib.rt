@@ -1,13 +1,15 @@
 // Routing one message: what a call does to the arrays of a state, in place.
 //
 // The functions are split as the rules are: a response, an event, a command, a give up, a replaced
-// call. `ruling` decides, and what it says is done here. Each is held to the rules' own definitions,
+// call. `ruling` decides on events and commands, `places` finds what a response or a give up is about,
+// and what follows is done here. Each is held to the rules' own definitions,
 // `judge..` and `applied`. `router` lends them the arrays of its state.
 use lists::Found;
 use message::Coded;
 use message::Head;
 use message::Reading;
 use place::Place;
+use places::Leaf;
 use rules::Outcome;
 use ruling::Ruling;
 use tapa::Refusal;
@@ -17,6 +19,7 @@ ghost use lib.ListN.{length};
 ghost use Rattle.message.specs.Message.{codeOf, partOf};
 ghost use Rattle.table.specs.Table.{Column};
 ghost use Rattle.places.specs.Places as places;
+ghost use Rattle.rules.specs.declared.Outcome.the-variants.{Answered};
 ghost use Rattle.rules.specs.Judge.{late, judgeResponse, turned, judgeCommand, judgeKind};
 ghost use Rattle.rules.specs.Apply.{place};
 ghost use Rattle.ruling.specs.Ruling.{viewIn, placesIn, ruled};
@@ -78,6 +81,19 @@ fn on_late(list: &mut [u64; 48], len: usize, head: Head) -> Step
     }
 }
 
+fn answered(head: Head, code: u16) -> Outcome
+    ensures { λ r. ⌜ r ≡ Answered (head .source) (head .destination) (head .thread) code ⌝ }
+{
+    Outcome::Answered {
+        asked: head.source,
+        asker: head.destination,
+        thread: head.thread,
+        code,
+    }
+}
+
+// By the wait of exactly its source: there is none; its handler holds a question (7); it has another
+// asker (8); or it ends.
 fn on_response(
     cells: &mut [u32; 16],
     count: usize,
@@ -93,23 +109,19 @@ fn on_response(
     let Coded::Code(code) = coded else {
         return refuse(Refusal::NoResponseCode, len);
     };
-    let Found::At(at) = ruling::answer_at(list, len, head.source, head.thread) else {
-        return on_late(list, len, head);
-    };
-    let wait = places::place_at(list, len, at);
-    if wait.asker != head.destination {
-        return refuse(Refusal::WrongAsker, len);
-    }
-    open_or_close(cells, count, wait, code);
-    let less = places::remove(list, len, at);
-    Step {
-        outcome: Outcome::Answered {
-            asked: head.source,
-            asker: head.destination,
-            thread: head.thread,
-            code,
-        },
-        len: less,
+    match places::leaf_at(list, len, head.source, head.thread) {
+        Leaf::Missing => on_late(list, len, head),
+        Leaf::Holds => refuse(Refusal::StrayResponse, len),
+        Leaf::At(at) => {
+            let wait = places::place_at(list, len, at);
+            if wait.asker != head.destination {
+                return refuse(Refusal::WrongAsker, len);
+            }
+            open_or_close(cells, count, wait, code);
+            let less = places::remove(list, len, at);
+            let outcome = answered(head, code);
+            Step { outcome, len: less }
+        }
     }
 }
 
@@ -238,9 +250,16 @@ pub fn on_message(
 
 // ---- Give up
 
-pub fn on_give_up(list: &mut [u64; 48], len: usize, thread: u8, reply: &mut [u8]) -> Step
+// The wait that asks exactly this address becomes an owing, unless its handler holds a question.
+pub fn on_give_up(
+    list: &mut [u64; 48],
+    len: usize,
+    thread: u8,
+    asked: u16,
+    reply: &mut [u8],
+) -> Step
     requires { ⌜ places.Lawful (now list) len ⌝ }
-    ensures { λ s. ⌜ OnGiveUp list len thread reply s ⌝ }
+    ensures { λ s. ⌜ OnGiveUp list len thread asked reply s ⌝ }
 {
     if reply.len() < 10 {
         return refuse(Refusal::BufferTooSmall, len);
@@ -248,23 +267,19 @@ pub fn on_give_up(list: &mut [u64; 48], len: usize, thread: u8, reply: &mut [u8]
     if 7 < thread {
         return refuse(Refusal::ThreadAbove7, len);
     }
-    match places::innermost(list, len, thread) {
-        Found::Nothing => refuse(Refusal::NothingToGiveUp, len),
-        Found::At(at) => {
+    match places::leaf_at(list, len, asked, thread) {
+        Leaf::Missing => refuse(Refusal::NothingToGiveUp, len),
+        Leaf::Holds => refuse(Refusal::HoldsAQuestion, len),
+        Leaf::At(at) => {
             let wait = places::place_at(list, len, at);
-            message::respond(
-                reply,
-                wait.asker,
-                wait.asked,
-                wait.thread,
-                tapa::HANDLER_ERROR,
-            );
+            let asker = wait.asker;
+            message::respond(reply, asker, asked, thread, tapa::HANDLER_ERROR);
             places::owe(list, len, at);
             Step {
                 outcome: Outcome::Given {
-                    asker: wait.asker,
-                    asked: wait.asked,
-                    thread: wait.thread,
+                    asker,
+                    asked,
+                    thread,
                 },
                 len,
             }

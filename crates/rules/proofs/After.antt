@@ -24,7 +24,7 @@ use Rattle.rules.specs.Judge.{busy}
 use Rattle.rules.specs.Apply.{place, answeredRows, applied}
 use Rattle.rules.specs.Conduct.{Conduct}
 use Rattle.rules.proofs.Waits.{open-thread, exact-on}
-use Rattle.rules.proofs.Allowed.{Innermost, Idle}
+use Rattle.rules.proofs.Allowed.{Leaf, Idle}
 
 -- ---- one command on an exact address and thread
 
@@ -46,11 +46,11 @@ pub exact-once : (v : View) → Conduct v → (a t : ℕ) → count (asksExactly
 exact-once v c a t =
     omega (arith, c .once (handlerOf a) t, count-apart (asksExactly a t) (owesExactly a t) (onSlot (handlerOf a) t) (exact-slot a t) (owes-slot a t) (v .places))
 
--- ---- 'it is passed and becomes the innermost wait'
+-- ---- 'it is passed and becomes' a wait of its thread's tree, the newest
 
-pub passed-innermost : (v : View) (asker asked kind t : ℕ)
+pub passed-newest : (v : View) (asker asked kind t : ℕ)
     → first (openOn t) (applied (Passed asker asked kind t) v .places) ≡ some (place asker asked kind t)
-passed-innermost v asker asked kind t = rw (eqb-same t)
+passed-newest v asker asked kind t = rw (eqb-same t)
 
 -- ---- 'it is answered and the wait ends'; 'the message is swallowed ... and the owing ends'
 
@@ -60,16 +60,16 @@ answered-ends v c asked asker t k = none-left (asksExactly asked t) (v .places) 
 pub swallowed-ends : (v : View) → Conduct v → (asked t : ℕ) → count (owesExactly asked t) (applied (Swallowed asked t) v .places) ≡ 0
 swallowed-ends v c asked t = none-left (owesExactly asked t) (v .places) (omega (arith, exact-once v c asked t))
 
--- ---- 'The innermost wait becomes an owing'
+-- ---- a wait that is given up 'becomes an owing'
 
-pub given-owes : (v : View) (asker asked t : ℕ) → Innermost v asker asked t → someOf (owesExactly asked t) (applied (Given asker asked t) v .places) ≡ true
+pub given-owes : (v : View) (asker asked t : ℕ) → Leaf v asker asked t → someOf (owesExactly asked t) (applied (Given asker asked t) v .places) ≡ true
 given-owes v asker asked t i =
     let y = first-yes (asksExactly asked t) (v .places) (i .it) (i .found) in
     let o : owesExactly asked t (owing (i .it)) ≡ true = rw (open-thread t (i .it) (exact-on asked t (i .it) y)) (eq-eqb (i .it .asked) asked (i .its-asked)) in
     changed-meets owing (owesExactly asked t) (asksExactly asked t) (v .places) (i .it) (i .found) o
 
 -- 'Freeing a handler at give-up' is the wrong turning: whose wait was given up is still busy, on its thread and, where it is single, on any
-pub given-busy : (v : View) (asker asked t : ℕ) → Innermost v asker asked t → (next u : ℕ) → (not (multi (handlerOf asked)) || eqb t u) ≡ true
+pub given-busy : (v : View) (asker asked t : ℕ) → Leaf v asker asked t → (next u : ℕ) → (not (multi (handlerOf asked)) || eqb t u) ≡ true
     → busy (applied (Given asker asked t) v .places) next (handlerOf asked) u ≡ true
 unfolding busy
 given-busy v asker asked t i next u e =
@@ -100,7 +100,7 @@ reset-closes v h p i = marked-now h false (v .rows) p (i .in-table)
 
 -- ---- 'If it was Open Handler or Close Handler and the code is '0000', the handler becomes open or closed.'
 
-module _ (v : View) (asker asked t : ℕ) (i : Innermost v asker asked t) (p : Proper (v .rows)) (y : listed (handlerOf asked) (v .rows) ≡ true) where
+module _ (v : View) (asker asked t : ℕ) (i : Leaf v asker asked t) (p : Proper (v .rows)) (y : listed (handlerOf asked) (v .rows) ≡ true) where
   pub answered-opens : i .it .kind ≡ openHandler → openedAt (handlerOf asked) (applied (Answered asked asker t successful) v .rows) ≡ true
   unfolding answeredRows
   answered-opens k = rw (i .found, k, i .its-asked) (marked-now (handlerOf asked) true (v .rows) p y)

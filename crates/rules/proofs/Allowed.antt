@@ -5,13 +5,13 @@ use mathlib.Core.Bool.{true, false, not}
 use mathlib.Core.List.{List, [], _∷_}
 use mathlib.Core.Option.{Option, none, some}
 use lib.Dec.{eqb, ltb}
-use borrow.Author.Tests.{not-false, ltb-false, eqb-true, eq-eqb}
+use borrow.Author.Tests.{not-false, ltb-false, eqb-true}
 use Rattle.lists.specs.Lists.{someOf, first}
-use Rattle.lists.proofs.Tests.{split, differ, checks-are}
-use Rattle.lists.proofs.First.{first-yes, first-strong}
+use Rattle.lists.proofs.Tests.{split, and-yes, checks-are}
+use Rattle.lists.proofs.First.{first-yes}
 use Rattle.tapa.specs.Address.{handlerOf}
 use Rattle.tapa.specs.Codes.{response, eventHandler}
-use Rattle.tapa.specs.declared.Refusal.the-variants.{NotInTable, StandsInAWait}
+use Rattle.tapa.specs.declared.Refusal.the-variants.{NotInTable, StandsInAWait, HoldsAQuestion}
 use Rattle.message.specs.declared.Head.{Head}
 use Rattle.message.specs.declared.Reading.{Reading}
 use Rattle.message.specs.declared.Reading.the-variants.{Message, Refused as Unread}
@@ -20,13 +20,12 @@ use Rattle.message.specs.declared.Coded.the-variants.{Code, Missing}
 use Rattle.message.specs.Message.{readOf, partOf, codeOf}
 use Rattle.table.specs.Table.{listed, openedAt}
 use Rattle.place.specs.declared.Place.{Place}
-use Rattle.places.specs.Places.{openOn, asksExactly, owesExactly, standsIn}
+use Rattle.places.specs.Places.{openOn, asksExactly, owesExactly, standsIn, holding}
 use Rattle.rules.specs.View.{View}
 use Rattle.rules.specs.declared.Outcome.{Outcome}
 use Rattle.rules.specs.declared.Outcome.the-variants.{Passed, Answered, Swallowed, Event, Turned, Given, Reset, Refused}
-use Rattle.rules.specs.Judge.{ifExactly, answerable, replyTests, late, reply, judgeResponse, isAddEvent, judgeEvent, judgeCommand}
+use Rattle.rules.specs.Judge.{answerable, replyTests, late, reply, judgeResponse, isAddEvent, judgeEvent, judgeCommand}
 use Rattle.rules.specs.Judge.{commonTests, judgeKind, judgeRead, judgeMessage, yields, judgeGiveUp, judgeReplaced, Call, message, giveUp, replaced, judge}
-use Rattle.rules.proofs.Waits.{exact-on, open-thread}
 use Rattle.rules.proofs.Steps.{NoRule, command-is}
 
 -- ---- an outcome, and what was so
@@ -37,13 +36,13 @@ pub record Fit (v : View) (asker asked kind t : ℕ) : Type 0 where
   pub thread-small : t ≤ 7
   pub met : NoRule v asker asked kind t
 
--- the innermost wait of thread t asks exactly this address, for this asker
-pub record Innermost (v : View) (asker asked t : ℕ) : Type 0 where
+-- the wait of thread t that asks exactly this address, for this asker, and whose handler holds no question there: a leaf of the tree
+pub record Leaf (v : View) (asker asked t : ℕ) : Type 0 where
   pub it : Place
-  pub top : first (openOn t) (v .places) ≡ some it
   pub found : first (asksExactly asked t) (v .places) ≡ some it
   pub its-asked : it .asked ≡ asked
   pub its-asker : it .asker ≡ asker
+  pub holds-none : holding (v .places) asked t ≡ false
   pub thread-small : t ≤ 7
 
 -- a replaced handler is in the table, and stands in no wait
@@ -53,28 +52,26 @@ pub record Idle (v : View) (h : ℕ) : Type 0 where
 
 abbrev pub Allowed : View → Outcome → Type 0
 Allowed v (Passed asker asked kind t) = Fit v asker asked kind t
-Allowed v (Answered asked asker t k) = Innermost v asker asked t
+Allowed v (Answered asked asker t k) = Leaf v asker asked t
 Allowed v (Swallowed asked t) = (someOf (owesExactly asked t) (v .places) ≡ true) × (t ≤ 7)
 Allowed v Event = openedAt eventHandler (v .rows) ≡ true
 Allowed v (Turned asker asked t k) = (listed (handlerOf asker) (v .rows) ≡ true) × (t ≤ 7)
-Allowed v (Given asker asked t) = Innermost v asker asked t
+Allowed v (Given asker asked t) = Leaf v asker asked t
 Allowed v (Reset h) = Idle v h
 Allowed v (Refused r) = Unit {0}
 
--- ---- the innermost wait
+-- ---- a leaf
 
-innermost-is : (v : View) (w : Place) (asker asked t : ℕ) → first (openOn t) (v .places) ≡ some w → w .asked ≡ asked → w .asker ≡ asker → t ≤ 7
-    → Innermost v asker asked t
-innermost-is v w asker asked t e p q small =
-    let x : asksExactly asked t w ≡ true = rw (first-yes (openOn t) (v .places) w e) (eq-eqb (w .asked) asked p) in
-    record {
-      it = w;
-      top = e;
-      found = first-strong (asksExactly asked t) (openOn t) (exact-on asked t) (v .places) w e x .found;
-      its-asked = p;
-      its-asker = q;
-      thread-small = small;
-    }
+leaf-is : (v : View) (w : Place) (asker asked t : ℕ) → answerable (v .places) asked t ≡ some w → w .asker ≡ asker → holding (v .places) asked t ≡ false → t ≤ 7
+    → Leaf v asker asked t
+leaf-is v w asker asked t e q n small = record {
+  it = w;
+  found = e;
+  its-asked = eqb-true (w .asked) asked (and-yes (openOn t w) (eqb (w .asked) asked) (first-yes (asksExactly asked t) (v .places) w e) .1);
+  its-asker = q;
+  holds-none = n;
+  thread-small = small;
+}
 
 -- ---- Type 'FF'
 
@@ -82,20 +79,13 @@ late-is : (v : View) (h : Head) → h .thread ≤ 7 → Allowed v (late (v .plac
 unfolding late
 late-is v h small = split (someOf (owesExactly (h .source) (h .thread)) (v .places)) (λ p. rw p (p, small)) (λ p. rw p tt)
 
-answerable-is : (a : ℕ) (o : Option Place) (w : Place) → ifExactly a o ≡ some w → (o ≡ some w) × (w .asked ≡ a)
-answerable-is a none w e = differ (cc)
-answerable-is a (some x) w e =
-    split (eqb (x .asked) a) (λ p. let e′ : some x ≡ some w = rw p at e in let k : x ≡ w = cc in (e′, rw (← k) (eqb-true (x .asked) a p)))
-    (λ p. let e′ : _≡_ {A = Option Place} none (some w) = rw p at e in differ (cc))
-
 reply-is : (v : View) (o : Option Place) (h : Head) (code : ℕ) → answerable (v .places) (h .source) (h .thread) ≡ o → h .thread ≤ 7
     → Allowed v (reply (v .places) o h code)
 unfolding reply
 reply-is v none h code e small = late-is v h small
 reply-is v (some w) h code e small =
-    checks-are (Allowed v) (replyTests w h) (Answered (h .source) (h .destination) (h .thread) code) (tt, tt)
-    (λ p. let y = answerable-is (h .source) (first (openOn (h .thread)) (v .places)) w e in
-    innermost-is v w (h .destination) (h .source) (h .thread) (y .0) (y .1) (eqb-true (w .asker) (h .destination) (not-false _ (p .0))) small)
+    checks-are (Allowed v) (replyTests (v .places) w h) (Answered (h .source) (h .destination) (h .thread) code) (tt, (tt, tt))
+    (λ p. leaf-is v w (h .destination) (h .source) (h .thread) e (eqb-true (w .asker) (h .destination) (not-false _ (p .1 .0))) (p .0) small)
 
 response-is : (v : View) (h : Head) (code : Coded) → h .thread ≤ 7 → Allowed v (judgeResponse (v .places) h code)
 unfolding judgeResponse
@@ -132,18 +122,18 @@ message-is v room s = split (ltb room 10) (λ p. rw p tt) (λ p. rw p (read-is v
 
 -- ---- Give up
 
-yields-is : (v : View) (t : ℕ) (o : Option Place) → first (openOn t) (v .places) ≡ o → t ≤ 7 → Allowed v (yields o)
+yields-is : (v : View) (t a : ℕ) (o : Option Place) → answerable (v .places) a t ≡ o → t ≤ 7 → Allowed v (yields (v .places) o t a)
 unfolding yields
-yields-is v t none e small = tt
-yields-is v t (some w) e small =
-    let k : w .thread ≡ t = eqb-true (w .thread) t (open-thread t w (first-yes (openOn t) (v .places) w e)) in
-    rw k (innermost-is v w (w .asker) (w .asked) t e refl refl small)
+yields-is v t a none e small = tt
+yields-is v t a (some w) e small =
+    checks-are (Allowed v) ((holding (v .places) a t, Refused HoldsAQuestion) ∷ []) (Given (w .asker) a t) (tt, tt)
+    (λ p. leaf-is v w (w .asker) a t e refl (p .0) small)
 
-give-up-is : (v : View) (room t : ℕ) → Allowed v (judgeGiveUp v room t)
+give-up-is : (v : View) (room t a : ℕ) → Allowed v (judgeGiveUp v room t a)
 unfolding judgeGiveUp
-give-up-is v room t =
+give-up-is v room t a =
     split (ltb room 10) (λ p. rw p tt)
-    (λ p. rw p (split (ltb 7 t) (λ q. rw q tt) (λ q. rw q (yields-is v t (first (openOn t) (v .places)) refl (ltb-false 7 t q)))))
+    (λ p. rw p (split (ltb 7 t) (λ q. rw q tt) (λ q. rw q (yields-is v t a (answerable (v .places) a t) refl (ltb-false 7 t q)))))
 
 -- ---- Replaced
 
@@ -157,5 +147,5 @@ replaced-is v a =
 -- ---- any call, in any view
 pub allowed : (v : View) (room : ℕ) (c : Call) → Allowed v (judge v room c)
 allowed v room (message s) = message-is v room s
-allowed v room (giveUp t) = give-up-is v room t
+allowed v room (giveUp t a) = give-up-is v room t a
 allowed v room (replaced a) = replaced-is v a

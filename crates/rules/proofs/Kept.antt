@@ -16,7 +16,7 @@ use Rattle.tapa.specs.Codes.{successful, openHandler, closeHandler}
 use Rattle.table.specs.declared.Row.{Row}
 use Rattle.table.specs.Table.{listed, setOpened, Proper}
 use Rattle.place.specs.declared.Place.{Place}
-use Rattle.places.specs.Places.{waits, onThread, openOn, asksExactly, owesExactly, asks, standsOn, onSlot, notOwedBy, owing}
+use Rattle.places.specs.Places.{waits, onThread, asksExactly, owesExactly, asks, standsOn, onSlot, notOwedBy, owing}
 use Rattle.table.proofs.Marks.{set-proper, set-listed}
 use Rattle.places.proofs.Two.{waits-stay}
 use Rattle.rules.specs.View.{View, fresh}
@@ -24,10 +24,10 @@ use Rattle.rules.specs.declared.Outcome.{Outcome}
 use Rattle.rules.specs.declared.Outcome.the-variants.{Passed, Answered, Swallowed, Event, Turned, Given, Reset, Refused}
 use Rattle.rules.specs.Judge.{busy, Call, judge}
 use Rattle.rules.specs.Apply.{place, answeredRows, rowsAfter, applied}
-use Rattle.rules.specs.Conduct.{Placed, Tree, Chained, Conduct}
-use Rattle.rules.proofs.Waits.{waits-given, waits-swallowed, first-waits, found-waits, tree-waits, waits-tree, chained-waits, waits-chained}
-use Rattle.rules.proofs.Trees.{tree-passed, tree-ended, chained-ended}
-use Rattle.rules.proofs.Allowed.{Allowed, Innermost, allowed}
+use Rattle.rules.specs.Conduct.{Placed, Tree, Conduct}
+use Rattle.rules.proofs.Waits.{waits-given, waits-swallowed, found-waits, held-waits, tree-waits, waits-tree}
+use Rattle.rules.proofs.Trees.{tree-passed, tree-ended}
+use Rattle.rules.proofs.Allowed.{Allowed, Leaf, allowed}
 
 -- ---- the rows
 
@@ -97,32 +97,17 @@ once-passed p l n f h t =
     )))
     (λ q. rw q (omega (arith, f h t)))
 
--- ---- the waits once the innermost has ended
+-- ---- the trees once a leaf was given up, and where the waits stay
 
-module _ (v : View) (c : Conduct v) (asker asked t : ℕ) (i : Innermost v asker asked t) where
-  top-wait : first (openOn t) (waits (v .places)) ≡ some (i .it)
-  top-wait = first-waits t (v .places) ∙ i .top
+given-tree : (v : View) (asker asked t : ℕ) → Leaf v asker asked t → (u : ℕ) → Tree u (v .places) → Tree u (changed owing (asksExactly asked t) (v .places))
+given-tree v asker asked t i u g =
+    waits-tree u (changed owing (asksExactly asked t) (v .places))
+    (rw (waits-given asked t (v .places))
+    (tree-ended u t asked (waits (v .places)) (i .it) (found-waits asked t (v .places) ∙ i .found) (held-waits asked t (v .places) ∙ i .holds-none) (tree-waits u (v .places) g)))
 
-  found-wait : first (asksExactly asked t) (waits (v .places)) ≡ some (i .it)
-  found-wait = found-waits asked t (v .places) ∙ i .found
-
-  given-tree : (u : ℕ) → Tree u (changed owing (asksExactly asked t) (v .places))
-  given-tree u =
-      waits-tree u (changed owing (asksExactly asked t) (v .places))
-      (rw (waits-given asked t (v .places))
-      (tree-ended u t asked (waits (v .places)) (i .it) top-wait found-wait (tree-waits t (v .places) (c .trees t)) (tree-waits u (v .places) (c .trees u))))
-
-  given-chain : Chained (changed owing (asksExactly asked t) (v .places))
-  given-chain =
-      waits-chained (changed owing (asksExactly asked t) (v .places))
-      (rw (waits-given asked t (v .places)) (chained-ended t asked (waits (v .places)) (i .it) top-wait found-wait (chained-waits (v .places) (c .chained))))
-
--- other places, with the same waits: the same trees and the same chains
+-- other places, with the same waits: the same trees
 same-tree : (t : ℕ) (l m : List Place) → waits m ≡ waits l → Tree t l → Tree t m
 same-tree t l m e g = waits-tree t m (rw e (tree-waits t l g))
-
-same-chain : (l m : List Place) → waits m ≡ waits l → Chained l → Chained m
-same-chain l m e c = waits-chained m (rw e (chained-waits l c))
 
 -- ---- the step
 
@@ -132,34 +117,29 @@ conduct-kept v (Passed asker asked kind t) c f =
     let e = free-of (v .places) asker (handlerOf asked) t (f .met .free) in record {
       once = once-passed p (v .places) (e .not-taken) (c .once);
       trees = λ u. tree-passed u (v .places) p (f .met .may) (e .not-standing) (e .not-asker) (c .trees u);
-      chained = (λ _. f .met .may, c .chained);
       placed = ((f .met .asked-listed, f .thread-small), c .placed);
     }
 conduct-kept v (Answered asked asker t k) c i = record {
   once = λ h u. omega (arith, c .once h u, count-without (onSlot h u) (asksExactly asked t) (v .places));
-  trees = λ u. tree-ended u t asked (v .places) (i .it) (i .top) (i .found) (c .trees t) (c .trees u);
-  chained = chained-ended t asked (v .places) (i .it) (i .top) (i .found) (c .chained);
+  trees = λ u. tree-ended u t asked (v .places) (i .it) (i .found) (i .holds-none) (c .trees u);
   placed = placed-rows v (Answered asked asker t k) (without (asksExactly asked t) (v .places))
       (All-without (Placed (v .rows)) (asksExactly asked t) (v .places) (c .placed));
 }
 conduct-kept v (Swallowed asked t) c f = record {
   once = λ h u. omega (arith, c .once h u, count-without (onSlot h u) (owesExactly asked t) (v .places));
   trees = λ u. same-tree u (v .places) (without (owesExactly asked t) (v .places)) (waits-swallowed asked t (v .places)) (c .trees u);
-  chained = same-chain (v .places) (without (owesExactly asked t) (v .places)) (waits-swallowed asked t (v .places)) (c .chained);
   placed = All-without (Placed (v .rows)) (owesExactly asked t) (v .places) (c .placed);
 }
 conduct-kept v Event c f = c
 conduct-kept v (Turned asker asked t k) c f = c
 conduct-kept v (Given asker asked t) c i = record {
   once = λ h u. omega (arith, c .once h u, count-changed owing (onSlot h u) (asksExactly asked t) (λ x. refl) (v .places));
-  trees = given-tree v c asker asked t i;
-  chained = given-chain v c asker asked t i;
+  trees = λ u. given-tree v asker asked t i u (c .trees u);
   placed = All-changed (Placed (v .rows)) owing (asksExactly asked t) (λ x a. a) (v .places) (c .placed);
 }
 conduct-kept v (Reset h) c f = record {
   once = λ a u. omega (arith, c .once a u, count-keep (onSlot a u) (notOwedBy h) (v .places));
   trees = λ u. same-tree u (v .places) (keep (notOwedBy h) (v .places)) (waits-stay h (v .places)) (c .trees u);
-  chained = same-chain (v .places) (keep (notOwedBy h) (v .places)) (waits-stay h (v .places)) (c .chained);
   placed = placed-rows v (Reset h) (keep (notOwedBy h) (v .places)) (All-keep (Placed (v .rows)) (notOwedBy h) (v .places) (c .placed));
 }
 conduct-kept v (Refused r) c f = c
@@ -171,7 +151,7 @@ unfolding categoryOf
 no-tree t = record { root = 0x0100; driver = refl; grown = tt }
 
 pub conduct-fresh : (rows : List Row) → Conduct (fresh rows)
-conduct-fresh rows = record { once = λ h t. omega arith; trees = no-tree; chained = tt; placed = tt }
+conduct-fresh rows = record { once = λ h t. omega arith; trees = no-tree; placed = tt }
 
 -- ---- any call
 

@@ -5,6 +5,7 @@ pub mod Trees
 pub mod Kept
 pub mod Bound
 pub mod Words
+pub mod Leaves
 pub mod Steps
 pub mod Numbers
 pub mod After

@@ -6,7 +6,7 @@ use mathlib.Core.Bool.{true, false}
 use mathlib.Core.List.{List, [], _∷_}
 use mathlib.Core.Option.{none, some}
 use lib.ListN.{length}
-use Rattle.lists.specs.Lists.{someOf, first}
+use Rattle.lists.specs.Lists.{someOf}
 use Rattle.tapa.specs.Address.{categoryOf, handlerOf}
 use Rattle.tapa.specs.Numbers.{wordAt}
 use Rattle.tapa.specs.Said.{refused, says, passed, answered, swallowed, event, turned, given, reset}
@@ -18,14 +18,14 @@ use Rattle.message.specs.Message.{readOf, partOf, codeOf, responseOf}
 use Rattle.message.proofs.Laws.{reads-short, reads-long, reads-fewer, reads-more}
 use Rattle.table.specs.Table.{listed, openedAt}
 use Rattle.place.specs.declared.Place.{Place}
-use Rattle.places.specs.Places.{openOn, owesExactly, standsIn}
+use Rattle.places.specs.Places.{owesExactly, standsIn, holding}
 use Rattle.rules.specs.View.{View}
 use Rattle.rules.specs.Judge.{answerable, isAddEvent, closedTo, mayAsk, busy, judgeKind, message, giveUp, replaced, judge}
 use Rattle.rules.specs.Said.{saidOutcome}
 use Rattle.rules.proofs.Steps.{message-small, message-unread, message-unlisted, message-thread, message-kind, kind-response, kind-event, kind-command}
 use Rattle.rules.proofs.Steps.{event-taken, event-refused, closed-to, turned-a, turned-b, turned-c, turned-d, turned-e, turned-f, passes}
-use Rattle.rules.proofs.Steps.{late-swallowed, late-stray, response-missing, response-late, response-wrong, response-answered}
-use Rattle.rules.proofs.Steps.{give-up-small, give-up-thread, give-up-none, give-up-given, replaced-unlisted, replaced-stands, replaced-reset}
+use Rattle.rules.proofs.Steps.{late-swallowed, late-stray, response-missing, response-late, response-holding, response-wrong, response-answered}
+use Rattle.rules.proofs.Steps.{give-up-small, give-up-thread, give-up-none, give-up-holding, give-up-given, replaced-unlisted, replaced-stands, replaced-reset}
 
 -- ---- a message
 module _ (v : View) (room : ℕ) (s : List ℕ) where
@@ -64,11 +64,15 @@ module _ (v : View) (room : ℕ) (s : List ℕ) where
 
             module _ (code : ℕ) (e : codeOf (partOf s) ≡ Code code) where
               module _ (w : Place) (f : answerable (v .places) (h .source) (h .thread) ≡ some w) where
-                pub message-8 : (w .asker ≡ h .destination → ⊥) → saidOutcome (judge v room (message s)) ≡ refused 8
-                message-8 n = ap saidOutcome (by-kind ∙ kind-response v h _ k ∙ response-wrong (v .places) h _ code e w f n)
+                pub message-7-holding : holding (v .places) (h .source) (h .thread) ≡ true → saidOutcome (judge v room (message s)) ≡ refused 7
+                message-7-holding b = ap saidOutcome (by-kind ∙ kind-response v h _ k ∙ response-holding (v .places) h _ code e w f b)
 
-                pub message-answered : w .asker ≡ h .destination → saidOutcome (judge v room (message s)) ≡ says answered (h .destination ∷ [])
-                message-answered d = ap saidOutcome (by-kind ∙ kind-response v h _ k ∙ response-answered (v .places) h _ code e w f d)
+                module _ (n : holding (v .places) (h .source) (h .thread) ≡ false) where
+                  pub message-8 : (w .asker ≡ h .destination → ⊥) → saidOutcome (judge v room (message s)) ≡ refused 8
+                  message-8 x = ap saidOutcome (by-kind ∙ kind-response v h _ k ∙ response-wrong (v .places) h _ code e w f n x)
+
+                  pub message-answered : w .asker ≡ h .destination → saidOutcome (judge v room (message s)) ≡ says answered (h .destination ∷ [])
+                  message-answered d = ap saidOutcome (by-kind ∙ kind-response v h _ k ∙ response-answered (v .places) h _ code e w f n d)
 
               module _ (f : answerable (v .places) (h .source) (h .thread) ≡ none) where
                 pub message-swallowed : someOf (owesExactly (h .source) (h .thread)) (v .places) ≡ true → saidOutcome (judge v room (message s)) ≡ says swallowed []
@@ -122,21 +126,25 @@ module _ (v : View) (room : ℕ) (s : List ℕ) where
                         message-passed x = ap saidOutcome (by-kind ∙ kind-command v h _ k e ∙ passes v h a b c d f x)
 
 -- ---- Give up
-module _ (v : View) (room t : ℕ) where
-  pub give-up-9 : room < 10 → saidOutcome (judge v room (giveUp t)) ≡ refused 9
-  give-up-9 l = ap saidOutcome (give-up-small v room t l)
+module _ (v : View) (room t a : ℕ) where
+  pub give-up-9 : room < 10 → saidOutcome (judge v room (giveUp t a)) ≡ refused 9
+  give-up-9 l = ap saidOutcome (give-up-small v room t a l)
 
   module _ (enough : 10 ≤ room) where
-    pub give-up-5 : 7 < t → saidOutcome (judge v room (giveUp t)) ≡ refused 5
-    give-up-5 l = ap saidOutcome (give-up-thread v room t enough l)
+    pub give-up-5 : 7 < t → saidOutcome (judge v room (giveUp t a)) ≡ refused 5
+    give-up-5 l = ap saidOutcome (give-up-thread v room t a enough l)
 
     module _ (l : t ≤ 7) where
-      pub give-up-14 : first (openOn t) (v .places) ≡ none → saidOutcome (judge v room (giveUp t)) ≡ refused 14
-      give-up-14 e = ap saidOutcome (give-up-none v room t enough l e)
+      pub give-up-14 : answerable (v .places) a t ≡ none → saidOutcome (judge v room (giveUp t a)) ≡ refused 14
+      give-up-14 e = ap saidOutcome (give-up-none v room t a enough l e)
 
-      pub give-up-done : (w : Place) → first (openOn t) (v .places) ≡ some w
-          → saidOutcome (judge v room (giveUp t)) ≡ says given (responseOf (w .asker) (w .asked) (w .thread) 0xFFF3)
-      give-up-done w e = ap saidOutcome (give-up-given v room t enough l w e)
+      module _ (w : Place) (e : answerable (v .places) a t ≡ some w) where
+        pub give-up-20 : holding (v .places) a t ≡ true → saidOutcome (judge v room (giveUp t a)) ≡ refused 20
+        give-up-20 b = ap saidOutcome (give-up-holding v room t a enough l w e b)
+
+        pub give-up-done : holding (v .places) a t ≡ false
+            → saidOutcome (judge v room (giveUp t a)) ≡ says given (responseOf (w .asker) a t 0xFFF3)
+        give-up-done b = ap saidOutcome (give-up-given v room t a enough l w e b)
 
 -- ---- Replaced
 module _ (v : View) (room a : ℕ) where

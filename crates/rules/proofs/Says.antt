@@ -1,14 +1,13 @@
 -- An outcome says what its call said: its addresses, type and thread are those of the message's bytes, of the give up, of the replaced call.
 use Prim.Native.Nat.{ℕ}
-use mathlib.Core.Path.{_≡_, refl, ap}
+use mathlib.Core.Path.{_≡_, refl}
 use mathlib.Core.Logic.{inl, inr}
 use mathlib.Core.List.{List}
 use mathlib.Core.Option.{Option, none, some}
 use lib.Dec.{eqb, ltb}
 use borrow.Author.Tests.{eqb-true}
-use Rattle.lists.specs.Lists.{someOf, first}
+use Rattle.lists.specs.Lists.{someOf}
 use Rattle.lists.proofs.Tests.{split, checks-are}
-use Rattle.lists.proofs.First.{first-yes}
 use Rattle.tapa.specs.Address.{handlerOf}
 use Rattle.tapa.specs.Codes.{response, eventHandler}
 use Rattle.tapa.specs.declared.Refusal.{Refusal}
@@ -21,13 +20,12 @@ use Rattle.message.specs.declared.Coded.the-variants.{Code, Missing}
 use Rattle.message.specs.Message.{readOf, partOf, codeOf}
 use Rattle.table.specs.Table.{listed, openedAt}
 use Rattle.place.specs.declared.Place.{Place}
-use Rattle.places.specs.Places.{openOn, owesExactly, standsIn}
+use Rattle.places.specs.Places.{owesExactly, standsIn, holding}
 use Rattle.rules.specs.View.{View}
-use Rattle.rules.specs.declared.Outcome.the-variants.{Answered, Given, Refused}
+use Rattle.rules.specs.declared.Outcome.the-variants.{Answered, Refused}
 use Rattle.rules.specs.Judge.{answerable, replyTests, late, reply, judgeResponse, isAddEvent, judgeCommand, commonTests, judgeKind, judgeRead, judgeMessage}
 use Rattle.rules.specs.Judge.{yields, judgeGiveUp, judgeReplaced, Call, message, giveUp, replaced, judge}
 use Rattle.rules.specs.Says.{Spoken, ReadSays, GivesUp, Replaces, Says}
-use Rattle.rules.proofs.Waits.{open-thread}
 use Rattle.rules.proofs.Steps.{command-is}
 
 -- ---- a message
@@ -40,7 +38,8 @@ module _ (v : View) (h : Head) where
       go : (o : Option Place) → Spoken h (Code code) (reply (v .places) o h code)
       go none = split (someOf (owesExactly (h .source) (h .thread)) (v .places)) (λ p. rw p (k, refl, refl)) (λ p. rw p tt)
       go (some w) =
-          checks-are (Spoken h (Code code)) (replyTests w h) (Answered (h .source) (h .destination) (h .thread) code) (tt, tt) (λ _. (k, refl, refl, refl, refl))
+          checks-are (Spoken h (Code code)) (replyTests (v .places) w h) (Answered (h .source) (h .destination) (h .thread) code) (tt, (tt, tt))
+          (λ _. (k, refl, refl, refl, refl))
 
   command-says : (code : Coded) → Spoken h code (judgeCommand v h)
   command-says code = command-is v h (Spoken h code) (λ k. (refl, refl, refl)) (λ n. (refl, refl, refl, refl))
@@ -69,17 +68,16 @@ message-says v room s =
 
 -- ---- Give up, Replaced
 
-yields-says : (v : View) (t : ℕ) (o : Option Place) → first (openOn t) (v .places) ≡ o → GivesUp t (yields o)
+yields-says : (places : List Place) (o : Option Place) (t a : ℕ) → GivesUp t a (yields places o t a)
 unfolding yields
-yields-says v t none e = inl refl
-yields-says v t (some w) e =
-    let k = eqb-true (w .thread) t (open-thread t w (first-yes (openOn t) (v .places) w e)) in
-    inr (w .asker, w .asked, ap (Given (w .asker) (w .asked)) k)
+yields-says places none t a = inl refl
+yields-says places (some w) t a = split (holding places a t) (λ p. rw p (inl refl)) (λ p. rw p (inr (w .asker, refl)))
 
-give-up-says : (v : View) (room t : ℕ) → GivesUp t (judgeGiveUp v room t)
+give-up-says : (v : View) (room t a : ℕ) → GivesUp t a (judgeGiveUp v room t a)
 unfolding judgeGiveUp
-give-up-says v room t =
-    split (ltb room 10) (λ p. rw p (inl refl)) (λ p. rw p (split (ltb 7 t) (λ q. rw q (inl refl)) (λ q. rw q (yields-says v t (first (openOn t) (v .places)) refl))))
+give-up-says v room t a =
+    split (ltb room 10) (λ p. rw p (inl refl))
+    (λ p. rw p (split (ltb 7 t) (λ q. rw q (inl refl)) (λ q. rw q (yields-says (v .places) (answerable (v .places) a t) t a))))
 
 replaced-says : (v : View) (a : ℕ) → Replaces a (judgeReplaced v a)
 unfolding judgeReplaced
@@ -91,5 +89,5 @@ replaced-says v a =
 -- ---- any call, in any view
 pub says : (v : View) (room : ℕ) (c : Call) → Says c (judge v room c)
 says v room (message s) = message-says v room s
-says v room (giveUp t) = give-up-says v room t
+says v room (giveUp t a) = give-up-says v room t a
 says v room (replaced a) = replaced-says v a

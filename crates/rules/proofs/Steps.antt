@@ -7,13 +7,13 @@ use mathlib.Core.List.{List}
 use mathlib.Core.Option.{Option, none, some}
 use lib.ListN.{length}
 use borrow.Author.Tests.{lt-ltb, le-ltb, lt-leb, le-leb, leb-false, eq-eqb, ne-eqb, not-false}
-use Rattle.lists.specs.Lists.{checks, someOf, first}
+use Rattle.lists.specs.Lists.{checks, someOf}
 use Rattle.lists.proofs.Tests.{differ, checks-are}
 use Rattle.tapa.specs.Address.{categoryOf, handlerOf}
 use Rattle.tapa.specs.Codes.{invalidDestination, handlerError, handlerBusy, insufficientResources, mustBeOpened, unsupportedOperation, response, openHandler, eventHandler}
 use Rattle.types.specs.Types.{known}
 use Rattle.tapa.specs.declared.Refusal.{Refusal}
-use Rattle.tapa.specs.declared.Refusal.the-variants.{NotInTable, ThreadAbove7, NoResponseCode, StrayResponse, WrongAsker, BufferTooSmall, EventCannotBeTaken, NothingToGiveUp, StandsInAWait}
+use Rattle.tapa.specs.declared.Refusal.the-variants.{NotInTable, ThreadAbove7, NoResponseCode, StrayResponse, WrongAsker, BufferTooSmall, EventCannotBeTaken, NothingToGiveUp, StandsInAWait, HoldsAQuestion}
 use Rattle.message.specs.declared.Head.{Head}
 use Rattle.message.specs.declared.Reading.{Reading}
 use Rattle.message.specs.declared.Reading.the-variants.{Message, Refused as Unread}
@@ -23,7 +23,7 @@ use Rattle.message.specs.Message.{readOf, partOf, codeOf}
 use Rattle.table.specs.declared.Row.{Row}
 use Rattle.table.specs.Table.{listed, openedAt}
 use Rattle.place.specs.declared.Place.{Place}
-use Rattle.places.specs.Places.{openOn, owesExactly, standsIn}
+use Rattle.places.specs.Places.{owesExactly, standsIn, holding}
 use Rattle.rules.specs.View.{View}
 use Rattle.rules.specs.declared.Outcome.{Outcome}
 use Rattle.rules.specs.declared.Outcome.the-variants.{Passed, Answered, Swallowed, Event, Given, Reset, Refused}
@@ -173,41 +173,50 @@ module _ (places : List Place) (h : Head) where
     response-missing e = ap (judgeResponse places h) e
 
     module _ (code : ℕ) (e : coded ≡ Code code) where
-      -- no wait on the thread, or the innermost asks another address
+      -- no wait of the thread asks exactly this address
       pub response-late : answerable places (h .source) (h .thread) ≡ none → judgeResponse places h coded ≡ late places h
       unfolding judgeResponse reply
       response-late f = ap (judgeResponse places h) e ∙ ap (λ (o : Option Place). reply places o h code) f
 
       module _ (w : Place) (f : answerable places (h .source) (h .thread) ≡ some w) where
-        replied : judgeResponse places h coded ≡ checks (replyTests w h) (Answered (h .source) (h .destination) (h .thread) code)
+        replied : judgeResponse places h coded ≡ checks (replyTests places w h) (Answered (h .source) (h .destination) (h .thread) code)
         unfolding judgeResponse reply
         replied = ap (judgeResponse places h) e ∙ ap (λ (o : Option Place). reply places o h code) f
 
-        pub response-wrong : (w .asker ≡ h .destination → ⊥) → judgeResponse places h coded ≡ Refused WrongAsker
-        response-wrong n = replied ∙ rw (ne-eqb (w .asker) (h .destination) n)
+        pub response-holding : holding places (h .source) (h .thread) ≡ true → judgeResponse places h coded ≡ Refused StrayResponse
+        response-holding b = replied ∙ rw b
 
-        pub response-answered : w .asker ≡ h .destination → judgeResponse places h coded ≡ Answered (h .source) (h .destination) (h .thread) code
-        response-answered y = replied ∙ rw (eq-eqb (w .asker) (h .destination) y)
+        module _ (n : holding places (h .source) (h .thread) ≡ false) where
+          pub response-wrong : (w .asker ≡ h .destination → ⊥) → judgeResponse places h coded ≡ Refused WrongAsker
+          response-wrong x = replied ∙ rw (n, ne-eqb (w .asker) (h .destination) x)
+
+          pub response-answered : w .asker ≡ h .destination → judgeResponse places h coded ≡ Answered (h .source) (h .destination) (h .thread) code
+          response-answered y = replied ∙ rw (n, eq-eqb (w .asker) (h .destination) y)
 
 -- ---- Give up
-module _ (v : View) (room t : ℕ) where
-  pub give-up-small : room < 10 → judgeGiveUp v room t ≡ Refused BufferTooSmall
+module _ (v : View) (room t a : ℕ) where
+  pub give-up-small : room < 10 → judgeGiveUp v room t a ≡ Refused BufferTooSmall
   unfolding judgeGiveUp
   give-up-small l = rw (lt-ltb room 10 l)
 
   module _ (enough : 10 ≤ room) where
-    pub give-up-thread : 7 < t → judgeGiveUp v room t ≡ Refused ThreadAbove7
+    pub give-up-thread : 7 < t → judgeGiveUp v room t a ≡ Refused ThreadAbove7
     unfolding judgeGiveUp
     give-up-thread l = rw (le-ltb room 10 enough, lt-ltb 7 t l)
 
     module _ (l : t ≤ 7) where
-      pub give-up-none : first (openOn t) (v .places) ≡ none → judgeGiveUp v room t ≡ Refused NothingToGiveUp
+      pub give-up-none : answerable (v .places) a t ≡ none → judgeGiveUp v room t a ≡ Refused NothingToGiveUp
       unfolding judgeGiveUp yields
       give-up-none e = rw (le-ltb room 10 enough, le-ltb 7 t l, e)
 
-      pub give-up-given : (w : Place) → first (openOn t) (v .places) ≡ some w → judgeGiveUp v room t ≡ Given (w .asker) (w .asked) (w .thread)
-      unfolding judgeGiveUp yields
-      give-up-given w e = rw (le-ltb room 10 enough, le-ltb 7 t l, e)
+      module _ (w : Place) (e : answerable (v .places) a t ≡ some w) where
+        pub give-up-holding : holding (v .places) a t ≡ true → judgeGiveUp v room t a ≡ Refused HoldsAQuestion
+        unfolding judgeGiveUp yields
+        give-up-holding b = rw (le-ltb room 10 enough, le-ltb 7 t l, e, b)
+
+        pub give-up-given : holding (v .places) a t ≡ false → judgeGiveUp v room t a ≡ Given (w .asker) a t
+        unfolding judgeGiveUp yields
+        give-up-given b = rw (le-ltb room 10 enough, le-ltb 7 t l, e, b)
 
 -- ---- Replaced
 module _ (v : View) (a h : ℕ) (e : h ≡ handlerOf a) where

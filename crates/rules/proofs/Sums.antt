@@ -40,7 +40,7 @@ abbrev pub third-call : Call
 third-call = message (0x00 ∷ 0x01 ∷ 0x02 ∷ 0x02 ∷ 0xFF ∷ 0x03 ∷ 0x00 ∷ 0x02 ∷ 0xFF ∷ 0x24 ∷ [])
 
 abbrev pub fourth-call : Call
-fourth-call = giveUp 3
+fourth-call = giveUp 3 0x0001
 
 abbrev pub one-passed : View
 one-passed = record { rows = rows; places = place 0x0100 0x0001 0x42 3 ∷ [] }

@@ -1,42 +1,28 @@
--- A thread's tree and chain, and that a passed command and an ended wait keep them.
+-- A thread's tree, and that a passed command and an ended wait keep it.
 use Prim.Native.Nat.{ℕ}
-use mathlib.Core.Path.{_≡_, refl, sym, ap, _∙_}
-use mathlib.Core.Bool.{Bool, true, false, _&&_, cond, or-true}
+use mathlib.Core.Path.{_≡_, refl, sym}
+use mathlib.Core.Bool.{Bool, true, false, _&&_, or-true}
 use mathlib.Core.List.{List, [], _∷_}
-use mathlib.Core.Option.{Option, some}
+use mathlib.Core.Option.{some}
 use lib.Dec.{eqb}
 use borrow.Author.Tests.{eqb-true, eq-eqb}
 use Rattle.lists.specs.Lists.{someOf, first, without}
 use Rattle.lists.proofs.Tests.{split, clash, or-no, and-yes, or-left, eqb-same}
 use Rattle.lists.proofs.Counts.{some-le, none-le}
-use Rattle.lists.proofs.First.{none-without, some-without, first-yes, first-strong}
+use Rattle.lists.proofs.First.{none-without, some-without, first-yes}
 use Rattle.tapa.specs.Address.{categoryOf, handlerOf}
 use Rattle.place.specs.declared.Place.{Place}
-use Rattle.places.specs.Places.{openOn, asksExactly, asks, stands, standsOn}
-use Rattle.rules.specs.Judge.{allows, mayAsk}
-use Rattle.rules.specs.Conduct.{grownIn, Grown, Tree, Chained}
-use Rattle.rules.proofs.Waits.{open-thread, exact-on}
+use Rattle.places.specs.Places.{openOn, asksExactly, asks, stands, standsOn, holdsOn, holding}
+use Rattle.rules.specs.Judge.{mayAsk}
+use Rattle.rules.specs.Conduct.{grownIn, Grown, Tree}
+use Rattle.rules.proofs.Waits.{open-thread}
 
 -- h is asked in a wait of thread t
 abbrev pub askedOn : ℕ → ℕ → Place → Bool
 askedOn t h p = openOn t p && asks h p
 
--- h holds a question that is open on thread t
-abbrev holds : ℕ → ℕ → Place → Bool
-holds t h p = openOn t p && eqb (handlerOf (p .asker)) h
-
 pub asked-on : (t h : ℕ) (p : Place) → askedOn t h p ≡ true → openOn t p ≡ true
 asked-on t h p q = and-yes (openOn t p) (asks h p) q .0
-
--- ---- rule d
-
--- who may ask over a chain stands in it, or begins one
-may-stand : (l : List Place) (t a : ℕ) → mayAsk l t a ≡ true
-    → cond (someOf (openOn t) l) (someOf (standsOn t (handlerOf a)) l) (eqb (categoryOf a) 1) ≡ true
-may-stand [] t a e = e
-may-stand (p ∷ l) t a e =
-    split (openOn t p) (λ q. let e′ : asks (handlerOf a) p ≡ true = rw q at e in rw (q, e′, or-true))
-    (λ q. rw q (may-stand l t a (rw q at e)))
 
 -- ---- the tree
 module _ (r t : ℕ) where
@@ -75,20 +61,20 @@ module _ (r t : ℕ) where
       rw (o, k, z)))
 
   -- a wait whose asked handler holds no question on its thread can be taken out
-  grown-without : (q : Place → Bool) (l : List Place) (x : Place) → first q l ≡ some x → someOf (holds (x .thread) (handlerOf (x .asked))) l ≡ false
+  grown-without : (q : Place → Bool) (l : List Place) (x : Place) → first q l ≡ some x → someOf (holdsOn (x .thread) (handlerOf (x .asked))) l ≡ false
       → Grown r t l → Grown r t (without q l)
   grown-without q [] x f n g = tt
   grown-without q (p ∷ l) x f n g =
       split (q p) (λ b. rw b (g .1))
       (λ b.
-      let m = or-no (holds (x .thread) (handlerOf (x .asked)) p) (someOf (holds (x .thread) (handlerOf (x .asked))) l) n in
+      let m = or-no (holdsOn (x .thread) (handlerOf (x .asked)) p) (someOf (holdsOn (x .thread) (handlerOf (x .asked))) l) n in
       let f′ : first q l ≡ some x = rw b at f in
       rw b (
         λ o.
             let other : askedOn t (handlerOf (p .asker)) x ≡ false =
             split (askedOn t (handlerOf (p .asker)) x)
             (λ c. let y = and-yes (openOn t x) (asks (handlerOf (p .asker)) x) c in
-            clash (holds (x .thread) (handlerOf (x .asked)) p)
+            clash (holdsOn (x .thread) (handlerOf (x .asked)) p)
             (rw (eqb-true (x .thread) t (open-thread t x (y .0)), o) (eq-eqb (handlerOf (p .asker)) (handlerOf (x .asked)) (sym (eqb-true (handlerOf (x .asked)) (handlerOf (p .asker)) (y .1)))))
             (m .0))
             (λ c. c) in
@@ -100,30 +86,30 @@ module _ (r t : ℕ) where
       ))
 
   -- nobody who is not in the tree holds a question in it
-  outside-holds : (h : ℕ) (l : List Place) → Grown r t l → grownIn r t h l ≡ false → someOf (holds t h) l ≡ false
+  outside-holds : (h : ℕ) (l : List Place) → Grown r t l → grownIn r t h l ≡ false → someOf (holdsOn t h) l ≡ false
   outside-holds h [] g n = refl
   outside-holds h (p ∷ l) g n =
       let a = or-no (eqb h r) (someOf (askedOn t h) (p ∷ l)) n in
       let b = or-no (askedOn t h p) (someOf (askedOn t h) l) (a .1) in
       let n′ : grownIn r t h l ≡ false = rw (a .0, b .1) in
-      let not-it : holds t h p ≡ false = split (holds t h p)
+      let not-it : holdsOn t h p ≡ false = split (holdsOn t h p)
       (λ q. let y = and-yes (openOn t p) (eqb (handlerOf (p .asker)) h) q in
       clash (grownIn r t h l) (rw (eqb-true (handlerOf (p .asker)) h (y .1)) at (g .0 (y .0) .0)) n′) (λ q. q) in
       rw not-it (outside-holds h l (g .1) n′)
 
-  -- and so the handler that the innermost wait asks holds none
-  innermost-leaf : (l : List Place) (x : Place) → first (openOn t) l ≡ some x → Grown r t l → someOf (holds t (handlerOf (x .asked))) l ≡ false
-  innermost-leaf [] x e g = refl
-  innermost-leaf (p ∷ l) x e g =
+  -- and so the handler that the newest wait asks holds none
+  newest-leaf : (l : List Place) (x : Place) → first (openOn t) l ≡ some x → Grown r t l → someOf (holdsOn t (handlerOf (x .asked))) l ≡ false
+  newest-leaf [] x e g = refl
+  newest-leaf (p ∷ l) x e g =
       split (openOn t p)
       (λ b.
       let k : p ≡ x = (let f : some p ≡ some x = rw b at e in cc) in
       let n : grownIn r t (handlerOf (x .asked)) l ≡ false = rw k at (g .0 b .1) in
-      let not-it : holds t (handlerOf (x .asked)) p ≡ false = split (holds t (handlerOf (x .asked)) p)
+      let not-it : holdsOn t (handlerOf (x .asked)) p ≡ false = split (holdsOn t (handlerOf (x .asked)) p)
       (λ q. let y = and-yes (openOn t p) (eqb (handlerOf (p .asker)) (handlerOf (x .asked))) q in
       clash (grownIn r t (handlerOf (x .asked)) l) (rw (eqb-true (handlerOf (p .asker)) (handlerOf (x .asked)) (y .1)) at (g .0 b .0)) n) (λ q. q) in
       rw not-it (outside-holds (handlerOf (x .asked)) l (g .1) n))
-      (λ b. let not-it : holds t (handlerOf (x .asked)) p ≡ false = rw b in rw not-it (innermost-leaf l x (rw b at e) (g .1)))
+      (λ b. let not-it : holdsOn t (handlerOf (x .asked)) p ≡ false = rw b in rw not-it (newest-leaf l x (rw b at e) (g .1)))
 
 -- a command that meets d and e
 pub tree-passed : (t : ℕ) (l : List Place) (p : Place) → mayAsk l (p .thread) (p .asker) ≡ true
@@ -133,7 +119,7 @@ tree-passed t l p may not-in ne g =
     (λ o.
     let e : p .thread ≡ t = eqb-true (p .thread) t (open-thread t p o) in
     let out : someOf (standsOn t (handlerOf (p .asked))) l ≡ false = rw e at not-in in
-    let d : cond (someOf (openOn t) l) (someOf (standsOn t (handlerOf (p .asker))) l) (eqb (categoryOf (p .asker)) 1) ≡ true = rw e at (may-stand l (p .thread) (p .asker) may) in
+    let d : mayAsk l t (p .asker) ≡ true = rw e at may in
     split (someOf (openOn t) l)
     (λ s.
     let m : someOf (standsOn t (handlerOf (p .asker))) l ≡ true = rw s at d in
@@ -163,42 +149,18 @@ tree-passed t l p may not-in ne g =
     }))
     (λ o. record { root = g .root; driver = g .driver; grown = (λ q. clash (openOn t p) q o, g .grown) })
 
--- the innermost wait of thread t, taken out: every thread's tree stands
-pub tree-ended : (u t a : ℕ) (l : List Place) (x : Place) → first (openOn t) l ≡ some x → first (asksExactly a t) l ≡ some x
-    → Tree t l → Tree u l → Tree u (without (asksExactly a t) l)
-tree-ended u t a l x e f g k =
-    let o : x .thread ≡ t = eqb-true (x .thread) t (open-thread t x (first-yes (openOn t) l x e)) in
-    let n = innermost-leaf (handlerOf (g .root)) t l x e (g .grown) in record {
-      root = k .root;
-      driver = k .driver;
-      grown = grown-without (handlerOf (k .root)) u (asksExactly a t) l x f (rw o n) (k .grown);
+-- the wait of thread t that asks exactly a, taken out where its handler holds no question: every thread's tree stands
+pub tree-ended : (u t a : ℕ) (l : List Place) (x : Place) → first (asksExactly a t) l ≡ some x → holding l a t ≡ false
+    → Tree u l → Tree u (without (asksExactly a t) l)
+tree-ended u t a l x f n g =
+    let y = and-yes (openOn t x) (eqb (x .asked) a) (first-yes (asksExactly a t) l x f) in
+    let k : x .thread ≡ t = eqb-true (x .thread) t (open-thread t x (y .0)) in
+    record {
+      root = g .root;
+      driver = g .driver;
+      grown = grown-without (handlerOf (g .root)) u (asksExactly a t) l x f (rw (k, eqb-true (x .asked) a (y .1)) n) (g .grown);
     }
 
--- ---- the chain
-
-first-other : (t u : ℕ) → eqb u t ≡ false → (l : List Place) → first (openOn u) (without (openOn t) l) ≡ first (openOn u) l
-first-other t u n [] = refl
-first-other t u n (p ∷ l) =
-    split (openOn t p)
-    (λ b. let k : p .thread ≡ t = eqb-true (p .thread) t (open-thread t p b) in
-    let q : openOn u p ≡ false = split (openOn u p)
-    (λ c. clash (eqb u t) (eq-eqb u t (sym (eqb-true (p .thread) u (open-thread u p c)) ∙ k)) n) (λ c. c) in
-    rw (b, q))
-    (λ b. rw (b, first-other t u n l))
-
-chained-without : (t : ℕ) (l : List Place) → Chained l → Chained (without (openOn t) l)
-chained-without t [] c = tt
-chained-without t (p ∷ l) c =
-    split (openOn t p) (λ b. rw b (c .1))
-    (λ b. rw b (
-      λ o.
-          let n : eqb (p .thread) t ≡ false = split (eqb (p .thread) t) (λ q. clash (openOn t p) (rw (o, q)) b) (λ q. q) in
-          ap (λ (i : Option Place). allows i (p .asker)) (first-other t (p .thread) n l) ∙ c .0 o,
-      chained-without t l (c .1),
-    ))
-
-pub chained-ended : (t a : ℕ) (l : List Place) (x : Place) → first (openOn t) l ≡ some x → first (asksExactly a t) l ≡ some x
-    → Chained l → Chained (without (asksExactly a t) l)
-chained-ended t a l x e f c =
-    let s = first-strong (asksExactly a t) (openOn t) (exact-on a t) l x e (first-yes (asksExactly a t) l x f) in
-    rw (s .taken) (chained-without t l c)
+-- the newest wait of a thread is a leaf: whoever gives up the newest first meets no question that is held
+pub newest-holds-none : (t : ℕ) (l : List Place) (x : Place) → Tree t l → first (openOn t) l ≡ some x → holding l (x .asked) t ≡ false
+newest-holds-none t l x g e = newest-leaf (handlerOf (g .root)) t l x e (g .grown)

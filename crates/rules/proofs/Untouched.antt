@@ -5,14 +5,14 @@ use mathlib.Core.List.{List, []}
 use mathlib.Core.Option.{Option, none, some}
 use lib.Dec.{eqb, ltb}
 use lib.ListN.{take}
-use Rattle.lists.specs.Lists.{someOf, first}
+use Rattle.lists.specs.Lists.{someOf}
 use Rattle.lists.proofs.Tests.{split}
 use Rattle.tapa.specs.declared.Refusal.{Refusal}
 use Rattle.message.specs.declared.Head.{Head}
 use Rattle.message.specs.declared.Coded.{Coded}
 use Rattle.message.specs.declared.Coded.the-variants.{Code, Missing}
 use Rattle.place.specs.declared.Place.{Place}
-use Rattle.places.specs.Places.{openOn, owesExactly}
+use Rattle.places.specs.Places.{owesExactly, holding}
 use Rattle.rules.specs.View.{View}
 use Rattle.rules.specs.declared.Outcome.{Outcome}
 use Rattle.rules.specs.declared.Outcome.the-variants.{Passed, Answered, Swallowed, Event, Turned, Given, Reset, Refused}
@@ -84,15 +84,15 @@ unfolding late
 late-rows v h = split (someOf (owesExactly (h .source) (h .thread)) (v .places)) (λ p. rw p) (λ p. rw p)
 
 -- nor a give up
-pub give-up-rows : (v : View) (room t : ℕ) → v .rows ≡ rowsAfter (judgeGiveUp v room t) v
+pub give-up-rows : (v : View) (room t a : ℕ) → v .rows ≡ rowsAfter (judgeGiveUp v room t a) v
 unfolding judgeGiveUp yields
-give-up-rows v room t =
+give-up-rows v room t a =
     split (ltb room 10) (λ p. rw p)
-    (λ p. rw p (split (ltb 7 t) (λ q. rw q) (λ q. rw q (go (first (openOn t) (v .places))))))
+    (λ p. rw p (split (ltb 7 t) (λ q. rw q) (λ q. rw q (go (answerable (v .places) a t)))))
   where
-    go : (o : Option Place) → v .rows ≡ rowsAfter (yields o) v
+    go : (o : Option Place) → v .rows ≡ rowsAfter (yields (v .places) o t a) v
     go none = refl
-    go (some w) = refl
+    go (some w) = split (holding (v .places) a t) (λ p. rw p) (λ p. rw p)
 
 -- a response writes nothing
 pub response-writes : (places : List Place) (h : Head) (coded : Coded) (buffer : List ℕ) → buffer ≡ written (judgeResponse places h coded) buffer
@@ -101,7 +101,9 @@ response-writes places h coded buffer = go coded
   where
     goes : (o : Option Place) (code : ℕ) → buffer ≡ written (reply places o h code) buffer
     goes none code = split (someOf (owesExactly (h .source) (h .thread)) places) (λ p. rw p) (λ p. rw p)
-    goes (some w) code = split (eqb (w .asker) (h .destination)) (λ p. rw p) (λ p. rw p)
+    goes (some w) code =
+        split (holding places (h .source) (h .thread)) (λ b. rw b)
+        (λ b. rw b (split (eqb (w .asker) (h .destination)) (λ p. rw p) (λ p. rw p)))
 
     go : (k : Coded) → buffer ≡ written (judgeResponse places h k) buffer
     go Missing = refl

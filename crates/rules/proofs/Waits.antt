@@ -1,19 +1,17 @@
--- The waits of a list of places after each kind of change; and that the tree and the chain of a thread are told by the waits alone.
+-- The waits of a list of places after each kind of change; and that a thread's tree is told by the waits alone.
 use Prim.Native.Nat.{ℕ}
 use mathlib.Core.Path.{_≡_, sym, ap, _∙_}
 use mathlib.Core.Bool.{Bool, true, _||_, _&&_}
 use mathlib.Core.List.{List, [], _∷_}
-use mathlib.Core.Option.{Option}
 use lib.Dec.{eqb}
 use Rattle.lists.specs.Lists.{first, without, changed}
 use Rattle.lists.proofs.Tests.{split, clash, and-yes}
 use Rattle.lists.proofs.Kept.{some-within}
 use Rattle.tapa.specs.Address.{handlerOf}
 use Rattle.place.specs.declared.Place.{Place}
-use Rattle.places.specs.Places.{isOpen, waits, onThread, openOn, asksExactly, owesExactly, asks, owing}
+use Rattle.places.specs.Places.{isOpen, waits, onThread, openOn, asksExactly, owesExactly, asks, holdsOn, holding, owing}
 use Rattle.places.proofs.Two.{asks-open, owes-owed, first-wait, waits-ended, waits-given as given, waits-kept}
-use Rattle.rules.specs.Judge.{allows, mayAsk}
-use Rattle.rules.specs.Conduct.{grownIn, Grown, Tree, Chained}
+use Rattle.rules.specs.Conduct.{grownIn, Grown, Tree}
 
 -- ---- whose tests they are
 
@@ -37,15 +35,16 @@ waits-given a t l = given (asksExactly a t) (asks-open a t) l
 pub waits-swallowed : (a t : ℕ) (l : List Place) → waits (without (owesExactly a t) l) ≡ waits l
 waits-swallowed a t l = waits-kept (owesExactly a t) (owes-owed a t) l
 
--- ---- the innermost wait is the first of the waits
-
-pub first-waits : (t : ℕ) (l : List Place) → first (openOn t) (waits l) ≡ first (openOn t) l
-first-waits t l = sym (first-wait (openOn t) (open-is t) l)
+-- ---- what is found, and what is held, among the waits
 
 pub found-waits : (a t : ℕ) (l : List Place) → first (asksExactly a t) (waits l) ≡ first (asksExactly a t) l
 found-waits a t l = sym (first-wait (asksExactly a t) (asks-open a t) l)
 
--- ---- trees and chains are those of the waits
+pub held-waits : (a t : ℕ) (l : List Place) → holding (waits l) a t ≡ holding l a t
+held-waits a t l =
+    sym (some-within (holdsOn t (handlerOf a)) isOpen (λ p q. open-is t p (and-yes (openOn t p) (eqb (handlerOf (p .asker)) (handlerOf a)) q .0)) l)
+
+-- ---- a tree is that of the waits
 
 grown-in-waits : (r t h : ℕ) (l : List Place) → grownIn r t h (waits l) ≡ grownIn r t h l
 grown-in-waits r t h l =
@@ -77,18 +76,3 @@ tree-waits t l g = record { root = g .root; driver = g .driver; grown = grown-wa
 
 pub waits-tree : (t : ℕ) (l : List Place) → Tree t (waits l) → Tree t l
 waits-tree t l g = record { root = g .root; driver = g .driver; grown = waits-grown (handlerOf (g .root)) t l (g .grown) }
-
-may-waits : (t a : ℕ) (l : List Place) → mayAsk (waits l) t a ≡ mayAsk l t a
-may-waits t a l = ap (λ (o : Option Place). allows o a) (first-waits t l)
-
-pub chained-waits : (l : List Place) → Chained l → Chained (waits l)
-chained-waits [] c = tt
-chained-waits (p ∷ l) c =
-    split (isOpen p) (λ q. rw q (λ o. may-waits (p .thread) (p .asker) l ∙ c .0 q, chained-waits l (c .1))) (λ q. rw q (chained-waits l (c .1)))
-
-pub waits-chained : (l : List Place) → Chained (waits l) → Chained l
-waits-chained [] c = tt
-waits-chained (p ∷ l) c =
-    split (isOpen p)
-    (λ q. let k : Chained (p ∷ waits l) = rw q at c in (λ o. sym (may-waits (p .thread) (p .asker) l) ∙ k .0 o, waits-chained l (k .1)))
-    (λ q. let k : Chained (waits l) = rw q at c in (λ o. clash (isOpen p) o q, waits-chained l k))

@@ -1,4 +1,4 @@
--- The tests of rules d and e are the page's sentences, and the conduct gives the law in plain words.
+-- The tests of rules d and e are the sentences of the rules, and the conduct gives the law in plain words.
 use Prim.Native.Nat.{ℕ, _≤_}
 use mathlib.Core.Path.{_≡_, refl, sym, ap, _∙_}
 use mathlib.Core.Bool.{Bool, true, false, _||_, _&&_, or-true, or-false, and-true}
@@ -7,8 +7,8 @@ use native.Mathlib.Omega.{arith}
 use lib.Dec.{eqb}
 use borrow.Author.Tests.{eqb-true}
 use Rattle.lists.specs.Lists.{count, someOf}
-use Rattle.lists.proofs.Tests.{split, and-yes, or-left, eqb-turn}
-use Rattle.lists.proofs.Counts.{count-le, none-zero, none-le, some-ext, some-kept, keep-nothing, All-map}
+use Rattle.lists.proofs.Tests.{split, clash, and-yes, or-left, eqb-turn}
+use Rattle.lists.proofs.Counts.{count-le, none-zero, none-le, some-ext, some-kept, keep-nothing, keep-some, All-map}
 use Rattle.lists.proofs.Kept.{some-parts}
 use Rattle.tapa.specs.Address.{handlerOf, multi}
 use Rattle.table.specs.Table.{listed}
@@ -16,20 +16,13 @@ use Rattle.place.specs.declared.Place.{Place}
 use Rattle.places.specs.Places.{isOpen, isOwed, waits, owings, onThread, openOn, asks, standsOn, onSlot}
 use Rattle.rules.specs.View.{View}
 use Rattle.rules.specs.Judge.{mayAsk, busy}
-use Rattle.rules.specs.Conduct.{Placed, grownIn, Grown, Chained, Conduct}
-use Rattle.rules.specs.Words.{chainOf, dLetsAsk, asksOn, eTurnsBack, Line, askedBy, Worded}
-use Rattle.rules.proofs.Waits.{open-is, open-thread}
-use Rattle.rules.proofs.Trees.{askedOn, asked-on}
-
--- ---- rule d
-
-pub d-worded : (places : List Place) (t a : ℕ) → mayAsk places t a ≡ dLetsAsk (chainOf t places) a
-d-worded [] t a = refl
-d-worded (p ∷ places) t a = split (openOn t p) (λ b. rw b) (λ b. rw b (d-worded places t a))
+use Rattle.rules.specs.Conduct.{Placed, grownIn, Grown, Tree, Conduct}
+use Rattle.rules.specs.Words.{treeOf, rootOf, dLetsAsk, asksOn, eTurnsBack, askedBy, Linked, Begun, Rooted, Worded}
+use Rattle.rules.proofs.Trees.{askedOn, standing, rooted}
 
 -- ---- rule e
 
--- a multi handler that is asked on this thread stands in its chain
+-- a multi handler that is asked on this thread stands in its tree
 none-asked : (places : List Place) (h t : ℕ) → someOf (standsOn t h) places ≡ false → someOf (asksOn h t) (waits places) ≡ false
 none-asked places h t e =
     some-kept (asksOn h t) isOpen places
@@ -53,59 +46,88 @@ e-worded places asker h t =
     turn false true = refl
     turn false false = refl
 
--- ---- the chain
+-- ---- the tree
 
 -- the asked handlers of the thread's waits, and the tree that they make
-some-asked : (t h : ℕ) (l : List Place) → someOf (askedOn t h) l ≡ someOf (λ x. eqb x h) (askedBy (chainOf t l))
+some-asked : (t h : ℕ) (l : List Place) → someOf (askedOn t h) l ≡ someOf (λ x. eqb x h) (askedBy (treeOf t l))
 some-asked t h [] = refl
 some-asked t h (p ∷ l) = split (openOn t p) (λ b. rw (b, some-asked t h l)) (λ b. rw (b, some-asked t h l))
 
-grown-listed : (r t h : ℕ) (l : List Place) → grownIn r t h l ≡ someOf (λ x. eqb x h) (r ∷ askedBy (chainOf t l))
+grown-listed : (r t h : ℕ) (l : List Place) → grownIn r t h l ≡ someOf (λ x. eqb x h) (r ∷ askedBy (treeOf t l))
 grown-listed r t h l = rw (some-asked t h l, eqb-turn h r)
 
-distinct : (r t h : ℕ) (l : List Place) → Grown r t l → count (λ x. eqb x h) (r ∷ askedBy (chainOf t l)) ≤ 1
+distinct : (r t h : ℕ) (l : List Place) → Grown r t l → count (λ x. eqb x h) (r ∷ askedBy (treeOf t l)) ≤ 1
 distinct r t h [] g = split (eqb r h) (λ b. rw b (omega arith)) (λ b. rw b (omega arith))
 distinct r t h (p ∷ l) g =
     split (openOn t p)
     (λ b. rw b (split (eqb (handlerOf (p .asked)) h)
     (λ q.
-    let n : someOf (λ x. eqb x h) (r ∷ askedBy (chainOf t l)) ≡ false =
+    let n : someOf (λ x. eqb x h) (r ∷ askedBy (treeOf t l)) ≡ false =
     rw (← (eqb-true (handlerOf (p .asked)) h q), ← (grown-listed r t (handlerOf (p .asked)) l)) (g .0 b .1) in
-    rw q (omega (arith, none-zero (λ x. eqb x h) (r ∷ askedBy (chainOf t l)) n)))
+    rw q (omega (arith, none-zero (λ x. eqb x h) (r ∷ askedBy (treeOf t l)) n)))
     (λ q. rw q (omega (arith, distinct r t h l (g .1))))))
     (λ b. rw b (distinct r t h l (g .1)))
 
--- the first wait of a chain is asked by its root
-begins : (r t : ℕ) (p : Place) (l : List Place) → grownIn r t (handlerOf (p .asker)) l ≡ true → chainOf t l ≡ [] → handlerOf (p .asker) ≡ r
-begins r t p l g e =
-    let n : someOf (askedOn t (handlerOf (p .asker))) l ≡ false =
-    none-le (askedOn t (handlerOf (p .asker))) (openOn t) (asked-on t (handlerOf (p .asker))) l (keep-nothing (openOn t) l e) in
-    eqb-true (handlerOf (p .asker)) r (or-left (eqb (handlerOf (p .asker)) r) (someOf (askedOn t (handlerOf (p .asker))) l) g n)
+-- each wait's asker is the root, or is asked by an older wait
+linked : (r t : ℕ) (l : List Place) → Grown r t l → Linked r (treeOf t l)
+linked r t [] g = tt
+linked r t (p ∷ l) g =
+    split (openOn t p) (λ b. rw b (rw (grown-listed r t (handlerOf (p .asker)) l) at (g .0 b .0), linked r t l (g .1)))
+    (λ b. rw b (linked r t l (g .1)))
 
-line-of : (r t : ℕ) (l : List Place) → Chained l → Grown r t l → Line r (chainOf t l)
-line-of r t [] c g = tt
-line-of r t (p ∷ l) c g =
-    split (openOn t p)
-    (λ b.
-    let k : p .thread ≡ t = eqb-true (p .thread) t (open-thread t p b) in
-    let may : dLetsAsk (chainOf t l) (p .asker) ≡ true = sym (d-worded l t (p .asker)) ∙ rw k at (c .0 (open-is t p b)) in
-    rw b (go (chainOf t l) refl may (g .0 b .0) (line-of r t l (c .1) (g .1))))
-    (λ b. rw b (line-of r t l (c .1) (g .1)))
+-- and so the oldest wait's asker is the root
+oldest : (r : ℕ) (w : Place) (older : List Place) → Linked r (w ∷ older) → rootOf w older ≡ r
+oldest r w [] k = sym (eqb-true r (handlerOf (w .asker)) (or-left (eqb r (handlerOf (w .asker))) false (k .0) refl))
+oldest r w (v ∷ older) k = oldest r v older (k .1)
+
+begun : (r : ℕ) (l : List Place) → Linked r l → Begun r l
+begun r [] k = tt
+begun r (w ∷ older) k = oldest r w older k
+
+-- the root of the law is the asker of the thread's oldest wait
+pub last-root : (t : ℕ) (l : List Place) (g : Tree t l) → Begun (handlerOf (g .root)) (treeOf t l)
+last-root t l g = begun (handlerOf (g .root)) (treeOf t l) (linked (handlerOf (g .root)) t l (g .grown))
+
+-- ---- rule d
+
+-- who stands in the tree is its root or asked in it, and the other way round
+in-tree : (t h : ℕ) (l : List Place) (g : Tree t l) → someOf (openOn t) l ≡ true → someOf (standsOn t h) l ≡ grownIn (handlerOf (g .root)) t h l
+in-tree t h l g s =
+    split (someOf (standsOn t h) l)
+    (λ b. b ∙ sym (standing (handlerOf (g .root)) t h l (g .grown) b))
+    (λ b. split (grownIn (handlerOf (g .root)) t h l)
+    (λ c. clash (someOf (standsOn t h) l) (rooted (handlerOf (g .root)) t h l (g .grown) s c) b)
+    (λ c. b ∙ sym c))
+
+-- the handlers that a tree's waits ask, by the waits
+asked-some : (h : ℕ) (l : List Place) → someOf (λ x. eqb x h) (askedBy l) ≡ someOf (asks h) l
+asked-some h [] = refl
+asked-some h (w ∷ l) = rw (asked-some h l)
+
+pub d-worded : (t a : ℕ) (l : List Place) → Tree t l → mayAsk l t a ≡ dLetsAsk (treeOf t l) a
+d-worded t a l g = go (treeOf t l) refl (last-root t l g)
   where
-    go : (m : List Place) → chainOf t l ≡ m → dLetsAsk m (p .asker) ≡ true → grownIn r t (handlerOf (p .asker)) l ≡ true → Line r m → Line r (p ∷ m)
-    go [] e may i n = begins r t p l i e
-    go (w ∷ m) e may i n = (sym (eqb-true (handlerOf (w .asked)) (handlerOf (p .asker)) may), n)
+    go : (m : List Place) → treeOf t l ≡ m → Begun (handlerOf (g .root)) m → mayAsk l t a ≡ dLetsAsk m a
+    go [] e b = rw (keep-nothing (openOn t) l e)
+    go (w ∷ older) e b =
+        let s : someOf (openOn t) l ≡ true = keep-some (openOn t) l w older e in
+        rw (s, b, in-tree t (handlerOf a) l g s, grown-listed (handlerOf (g .root)) t (handlerOf a) l, e, asked-some (handlerOf a) (w ∷ older))
 
 -- ---- the law
 
+-- a thread's tree, in plain words
+pub rooted-tree : (t : ℕ) (l : List Place) → Tree t l → Rooted (treeOf t l)
+rooted-tree t l g = record {
+  root = g .root;
+  till-driver = g .driver;
+  oldest = last-root t l g;
+  linked = linked (handlerOf (g .root)) t l (g .grown);
+  no-handler-twice = λ h. distinct (handlerOf (g .root)) t h l (g .grown);
+}
+
 pub worded : (v : View) → Conduct v → Worded v
 worded v c = record {
-  chains = λ t. let g = c .trees t in record {
-    beginner = g .root;
-    till-driver = g .driver;
-    line = line-of (handlerOf (g .root)) t (v .places) (c .chained) (g .grown);
-    no-handler-twice = λ h. distinct (handlerOf (g .root)) t h (v .places) (g .grown);
-  };
+  trees = λ t. rooted-tree t (v .places) (c .trees t);
   threads = All-map (Placed (v .rows)) (λ (p : Place). p .thread ≤ 7) (λ x a. a .1) (v .places) (c .placed);
   in-table = All-map (Placed (v .rows)) (λ (p : Place). listed (handlerOf (p .asked)) (v .rows) ≡ true) (λ x a. a .0) (v .places) (c .placed);
   single-once = λ h m. omega (arith, c .once h 0, count-le (asks h) (onSlot h 0) (λ x q. rw (q, m)) (v .places));

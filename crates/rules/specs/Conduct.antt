@@ -1,5 +1,4 @@
 -- The law that the rules keep: it holds in the fresh view, and after every outcome that `judge` gives (proofs/Kept.antt).
--- A chain is a tree that does not branch. The law is that of a tree, and one field more says that it is a chain.
 use Prim.Native.Nat.{ℕ, _≤_}
 use mathlib.Core.Path.{_≡_}
 use mathlib.Core.Bool.{Bool, true, false, _&&_, _||_}
@@ -10,9 +9,8 @@ use Rattle.tapa.specs.Address.{categoryOf, handlerOf, tillDriver}
 use Rattle.table.specs.declared.Row.{Row}
 use Rattle.table.specs.Table.{listed}
 use Rattle.place.specs.declared.Place.{Place}
-use Rattle.places.specs.Places.{isOpen, openOn, asks, onSlot}
+use Rattle.places.specs.Places.{openOn, asks, onSlot}
 use Rattle.rules.specs.View.{View}
-use Rattle.rules.specs.Judge.{mayAsk}
 
 -- a place's asked handler is in the table, and its thread is one of the eight
 abbrev pub Placed : List Row → Place → Type 0
@@ -35,15 +33,9 @@ pub record Tree (t : ℕ) (places : List Place) : Type 0 where
   pub driver : categoryOf root ≡ tillDriver
   pub grown : Grown (handlerOf root) t places
 
--- each wait met rule d over the waits that are older than it: the thread's tree is a chain
-abbrev pub Chained : List Place → Type 0
-Chained [] = Unit {0}
-Chained (p ∷ ps) = (isOpen p ≡ true → mayAsk ps (p .thread) (p .asker) ≡ true) × Chained ps
-
--- on each thread the open questions form one chain, begun by a till driver, with no handler in it twice, and no handler has more commands
+-- on each thread the open questions form a tree with one till driver as its root and no handler in it twice, and no handler has more commands
 -- under way, open or owed, than 'one altogether' or, where it is multi, 'one command a thread'
 pub record Conduct (v : View) : Type 0 where
   pub once : (h t : ℕ) → count (onSlot h t) (v .places) ≤ 1
   pub trees : (t : ℕ) → Tree t (v .places)
-  pub chained : Chained (v .places)
   pub placed : All (Placed (v .rows)) (v .places)

@@ -9,7 +9,7 @@ use Rattle.lists.specs.Lists.{checks, someOf, first}
 use Rattle.tapa.specs.Address.{categoryOf, handlerOf, tillDriver}
 use Rattle.tapa.specs.Codes.{invalidDestination, handlerError, handlerBusy, insufficientResources, mustBeOpened, unsupportedOperation, response, addEvent, openHandler, eventHandler}
 use Rattle.types.specs.Types.{known}
-use Rattle.tapa.specs.declared.Refusal.the-variants.{NotInTable, ThreadAbove7, NoResponseCode, StrayResponse, WrongAsker, BufferTooSmall, EventCannotBeTaken, NothingToGiveUp, StandsInAWait}
+use Rattle.tapa.specs.declared.Refusal.the-variants.{NotInTable, ThreadAbove7, NoResponseCode, StrayResponse, WrongAsker, BufferTooSmall, EventCannotBeTaken, NothingToGiveUp, StandsInAWait, HoldsAQuestion}
 use Rattle.message.specs.declared.Head.{Head}
 use Rattle.message.specs.declared.Reading.{Reading}
 use Rattle.message.specs.declared.Reading.the-variants.{Message, Refused as Unread}
@@ -19,25 +19,24 @@ use Rattle.message.specs.Message.{readOf, partOf, codeOf}
 use Rattle.table.specs.declared.Row.{Row}
 use Rattle.table.specs.Table.{listed, openedAt}
 use Rattle.place.specs.declared.Place.{Place}
-use Rattle.places.specs.Places.{openOn, owesExactly, standsOn, standsIn, onSlot}
+use Rattle.places.specs.Places.{openOn, asksExactly, owesExactly, standsOn, standsIn, onSlot, holding}
 use Rattle.rules.specs.View.{View}
 use Rattle.rules.specs.declared.Outcome.{Outcome}
 use Rattle.rules.specs.declared.Outcome.the-variants.{Passed, Answered, Swallowed, Event, Turned, Given, Reset, Refused}
 
 -- ---- Type 'FF'
 
--- 'If the innermost wait of the thread has exactly this source as its asked address'
-abbrev pub ifExactly : ℕ → Option Place → Option Place
-ifExactly a none = none
-ifExactly a (some w) = cond (eqb (w .asked) a) (some w) none
-
--- the wait of a thread that a response from a can answer
+-- the wait of a thread that has exactly this asked address: what a response from it can answer, and what a give up names
 abbrev pub answerable : List Place → ℕ → ℕ → Option Place
-answerable places a t = ifExactly a (first (openOn t) places)
+answerable places a t = first (asksExactly a t) places
 
--- 'a destination other than its asker is refused (8)'
-abbrev pub replyTests : Place → Head → List (Bool × Outcome)
-replyTests w h = (not (eqb (w .asker) (h .destination)), Refused WrongAsker) ∷ []
+-- 'A response answers its wait only if the answering handler holds no open question itself on that thread': 'a response to the wait of such a
+-- handler is 7, before 8'; 'a destination other than its asker is refused (8)'
+abbrev pub replyTests : List Place → Place → Head → List (Bool × Outcome)
+replyTests places w h =
+    (holding places (h .source) (h .thread), Refused StrayResponse)
+    ∷ (not (eqb (w .asker) (h .destination)), Refused WrongAsker)
+    ∷ []
 
 -- 'Else, if this exact source is owed on this thread, the message is swallowed ... Else 7.'
 unfoldable pub late : List Place → Head → Outcome
@@ -45,7 +44,7 @@ late places h = cond (someOf (owesExactly (h .source) (h .thread)) places) (Swal
 
 unfoldable pub reply : List Place → Option Place → Head → ℕ → Outcome
 reply places none h code = late places h
-reply places (some w) h code = checks (replyTests w h) (Answered (h .source) (h .destination) (h .thread) code)
+reply places (some w) h code = checks (replyTests places w h) (Answered (h .source) (h .destination) (h .thread) code)
 
 -- 'Data length under 2 (6).'
 unfoldable pub judgeResponse : List Place → Head → Coded → Outcome
@@ -67,15 +66,12 @@ judgeEvent rows = cond (openedAt eventHandler rows) Event (Refused EventCannotBe
 abbrev pub closedTo : List Row → (handler kind : ℕ) → Bool
 closedTo rows h kind = not (openedAt h rows) && not (eqb kind openHandler)
 
--- rule d: who may ask over the innermost wait or, 'where the chain is empty', over none
-abbrev pub allows : Option Place → ℕ → Bool
-allows none a = eqb (categoryOf a) tillDriver
-allows (some w) a = eqb (handlerOf (w .asked)) (handlerOf a)
-
+-- rule d: the asker stands in the thread's tree or, 'for an empty tree', is of category 01. Every asker of a tree is its root or asked in it, so
+-- these are 'the root or an asked handler of the tree': proofs/Words.antt shows it.
 abbrev pub mayAsk : List Place → ℕ → ℕ → Bool
-mayAsk places t a = allows (first (openOn t) places) a
+mayAsk places t a = cond (someOf (openOn t) places) (someOf (standsOn t (handlerOf a)) places) (eqb (categoryOf a) tillDriver)
 
--- rule e, for the handler h: it is the asker, stands in the thread's chain, or has a command under way that leaves no room for one more.
+-- rule e, for the handler h: it is the asker, stands in the thread's tree, or has a command under way that leaves no room for one more.
 -- proofs/Words.antt shows that this is the page's sentence.
 unfoldable pub busy : List Place → (asker h thread : ℕ) → Bool
 busy places asker h t = eqb h (handlerOf asker) || (someOf (standsOn t h) places || someOf (onSlot h t) places)
@@ -94,7 +90,7 @@ rules v h =
     ∷ (leb 48 (length (v .places)), turned h insufficientResources)
     ∷ []
 
--- 'Otherwise it is passed and becomes the innermost wait.'
+-- 'Otherwise it is passed and becomes' a wait of the thread's tree.
 unfoldable pub judgeCommand : View → Head → Outcome
 judgeCommand v h = checks (rules v h) (Passed (h .source) (h .destination) (h .kind) (h .thread))
 
@@ -120,15 +116,17 @@ judgeMessage v room s = checks ((ltb room 10, Refused BufferTooSmall) ∷ []) (j
 
 -- ---- Give up
 
--- 'then no wait (14)'; else the innermost
-unfoldable pub yields : Option Place → Outcome
-yields none = Refused NothingToGiveUp
-yields (some w) = Given (w .asker) (w .asked) (w .thread)
+-- 'give up of an address with no wait is 14; of one that still holds a question on that thread is 20, after 14'
+unfoldable pub yields : List Place → Option Place → (thread address : ℕ) → Outcome
+yields places none t a = Refused NothingToGiveUp
+yields places (some w) t a = checks ((holding places a t, Refused HoldsAQuestion) ∷ []) (Given (w .asker) a t)
 
--- 'Checks 9, 5, then no wait (14).'
-unfoldable pub judgeGiveUp : View → (room thread : ℕ) → Outcome
-judgeGiveUp v room t =
-    checks ((ltb room 10, Refused BufferTooSmall) ∷ (ltb 7 t, Refused ThreadAbove7) ∷ []) (yields (first (openOn t) (v .places)))
+-- 'Give up takes a thread and an exact asked address': 9, 5, then 14, 20
+unfoldable pub judgeGiveUp : View → (room thread address : ℕ) → Outcome
+judgeGiveUp v room t a =
+    checks
+    ((ltb room 10, Refused BufferTooSmall) ∷ (ltb 7 t, Refused ThreadAbove7) ∷ [])
+    (yields (v .places) (answerable (v .places) a t) t a)
 
 -- ---- Replaced
 
@@ -145,11 +143,11 @@ judgeReplaced v a =
 
 pub data Call : Type 0 where
   message : (bytes : List ℕ) → Call
-  giveUp : (thread : ℕ) → Call
+  giveUp : (thread address : ℕ) → Call
   replaced : (address : ℕ) → Call
 
 -- the outcome of a call, with a reply buffer of so many bytes (a replaced call has none)
 abbrev pub judge : View → (room : ℕ) → Call → Outcome
 judge v room (message s) = judgeMessage v room s
-judge v room (giveUp t) = judgeGiveUp v room t
+judge v room (giveUp t a) = judgeGiveUp v room t a
 judge v room (replaced a) = judgeReplaced v a

@@ -32,9 +32,9 @@ abbrev pub ReadSays : Reading → Coded → Outcome → Type 0
 ReadSays (Message h) code o = Spoken h code o
 ReadSays (Unread r) code o = isRefused o ≡ true
 
--- a give up of thread t is refused, or gives up a wait of that thread
-abbrev pub GivesUp : ℕ → Outcome → Type 0
-GivesUp t o = (isRefused o ≡ true) ⊎ ((asker : ℕ) × (asked : ℕ) × (o ≡ Given asker asked t))
+-- a give up of the address a on thread t is refused, or gives up a wait of exactly that address on that thread
+abbrev pub GivesUp : ℕ → ℕ → Outcome → Type 0
+GivesUp t a o = (isRefused o ≡ true) ⊎ ((asker : ℕ) × (o ≡ Given asker a t))
 
 -- a replaced call of the address a is refused, or resets its handler
 abbrev pub Replaces : ℕ → Outcome → Type 0
@@ -42,5 +42,5 @@ Replaces a o = (isRefused o ≡ true) ⊎ (o ≡ Reset (handlerOf a))
 
 abbrev pub Says : Call → Outcome → Type 0
 Says (message s) o = ReadSays (readOf s) (codeOf (partOf s)) o
-Says (giveUp t) o = GivesUp t o
+Says (giveUp t a) o = GivesUp t a o
 Says (replaced a) o = Replaces a o

@@ -1,4 +1,4 @@
--- Rules d and e in the page's words, and what the conduct tells in plain words. proofs/Words.antt shows that the tests of d and e are these,
+-- Rules d and e in the words of the rules, and what the conduct tells in plain words. proofs/Words.antt shows that the tests of d and e are these,
 -- and that the conduct gives the rest; proofs/Bound.antt has the bound.
 use Prim.Native.Nat.{ℕ, _+_, _*_, _≤_}
 use mathlib.Core.Path.{_≡_}
@@ -13,19 +13,24 @@ use Rattle.place.specs.declared.Place.{Place}
 use Rattle.places.specs.Places.{waits, owings, onThread, openOn, asks, standsOn}
 use Rattle.rules.specs.View.{View}
 
--- 'A thread's waits form its chain; the last is innermost.' Here the innermost stands first.
-abbrev pub chainOf : ℕ → List Place → List Place
-chainOf t places = keep (openOn t) places
+-- 'A thread's waits become a tree whose root is one till driver.' Here they stand the newest first.
+abbrev pub treeOf : ℕ → List Place → List Place
+treeOf t places = keep (openOn t) places
 
--- d: the asking handler is 'the one the innermost wait asks or, where the chain is empty,' of category 01
-abbrev pub dLetsAsk : (chain : List Place) → (asker : ℕ) → Bool
+-- the root of a tree, as a handler: the asker of its oldest wait (w is the newest, and has these older ones)
+abbrev pub rootOf : (w : Place) → (older : List Place) → ℕ
+rootOf w [] = handlerOf (w .asker)
+rootOf w (v ∷ older) = rootOf v older
+
+-- d: 'the asker must be the root or an asked handler of the tree; for an empty tree, category 01'
+abbrev pub dLetsAsk : (tree : List Place) → (asker : ℕ) → Bool
 dLetsAsk [] a = eqb (categoryOf a) tillDriver
-dLetsAsk (w ∷ older) a = eqb (handlerOf (w .asked)) (handlerOf a)
+dLetsAsk (w ∷ older) a = eqb (rootOf w older) (handlerOf a) || someOf (asks (handlerOf a)) (w ∷ older)
 
 abbrev pub asksOn : ℕ → ℕ → Place → Bool
 asksOn h t p = asks h p && onThread t p
 
--- e: 'asked handler is the asker, or stands in this thread's chain as asker or asked; or is single and asked or owing on any thread; or is
+-- e: 'asked handler is the asker, or stands in this thread's tree as asker or asked; or is single and asked or owing on any thread; or is
 -- multi and owing on this thread'
 abbrev pub eTurnsBack : List Place → (asker h thread : ℕ) → Bool
 eTurnsBack places asker h t =
@@ -36,27 +41,32 @@ eTurnsBack places asker h t =
 
 -- ---- the law
 
--- each wait's asker is the handler that the wait before it asks; the first wait's asker is the handler r
-abbrev pub Line : ℕ → List Place → Type 0
-Line r [] = Unit {0}
-Line r (w ∷ []) = handlerOf (w .asker) ≡ r
-Line r (w ∷ v ∷ older) = (handlerOf (w .asker) ≡ handlerOf (v .asked)) × Line r (v ∷ older)
-
 -- the handlers that a list of waits asks
 abbrev pub askedBy : List Place → List ℕ
 askedBy l = map (λ (w : Place). handlerOf (w .asked)) l
 
--- one chain, begun by a till driver, with no handler in it twice
-pub record Chain (l : List Place) : Type 0 where
-  pub beginner : ℕ
-  pub till-driver : categoryOf beginner ≡ tillDriver
-  pub line : Line (handlerOf beginner) l
-  pub no-handler-twice : (h : ℕ) → count (λ x. eqb x h) (handlerOf beginner ∷ askedBy l) ≤ 1
+-- each wait's asker is the root r, or is asked by an older wait
+abbrev pub Linked : ℕ → List Place → Type 0
+Linked r [] = Unit {0}
+Linked r (w ∷ older) = (someOf (λ x. eqb x (handlerOf (w .asker))) (r ∷ askedBy older) ≡ true) × Linked r older
 
--- the law of a view, word by word: each thread's waits are such a chain; threads are 0 to 7; who is asked or owing is in the table; a single
+-- and the root asked the oldest wait
+abbrev pub Begun : ℕ → List Place → Type 0
+Begun r [] = Unit {0}
+Begun r (w ∷ older) = rootOf w older ≡ r
+
+-- a tree with one till driver as its root and no handler in it twice
+pub record Rooted (l : List Place) : Type 0 where
+  pub root : ℕ
+  pub till-driver : categoryOf root ≡ tillDriver
+  pub oldest : Begun (handlerOf root) l
+  pub linked : Linked (handlerOf root) l
+  pub no-handler-twice : (h : ℕ) → count (λ x. eqb x h) (handlerOf root ∷ askedBy l) ≤ 1
+
+-- the law of a view, word by word: each thread's waits are such a tree; threads are 0 to 7; who is asked or owing is in the table; a single
 -- handler has one command under way altogether, a multi handler one a thread
 pub record Worded (v : View) : Type 0 where
-  pub chains : (t : ℕ) → Chain (chainOf t (v .places))
+  pub trees : (t : ℕ) → Rooted (treeOf t (v .places))
   pub threads : All (λ (p : Place). p .thread ≤ 7) (v .places)
   pub in-table : All (λ (p : Place). listed (handlerOf (p .asked)) (v .rows) ≡ true) (v .places)
   pub single-once : (h : ℕ) → multi h ≡ false → count (asks h) (v .places) ≤ 1

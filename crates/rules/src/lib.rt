@@ -5,15 +5,15 @@
 // are the passed commands that are not done with. The outcome names the command that it concerns;
 // whether an answer opens or closes a handler is read off that command's place.
 //
-// The conduct is the law that the rules keep: each thread's waits are one chain, begun by a till
-// driver, with no handler in it twice, and no handler has more commands under way than it may. That
+// The conduct is the law that the rules keep: each thread's waits are a tree with one till driver as
+// its root and no handler in it twice, and no handler has more commands under way than it may. That
 // it is kept is proved here, without a line of code; the code of the next room is held to these rules.
 
 use tapa::Refusal;
 
 // What comes of a call: of a message, of a give up, or of a replaced call.
 pub enum Outcome {
-    // A command goes on, and becomes the innermost wait.
+    // A command goes on, and becomes a wait of its thread's tree.
     Passed {
         asker: u16,
         asked: u16,

@@ -1,17 +1,12 @@
 -- What the functions that decide answer. The rules themselves are definitions of `rules`.
 use Prim.Native.Nat.{ℕ}
-use mathlib.Core.Bool.{cond}
 use mathlib.Core.List.{List}
-use lib.Dec.{eqb}
 use denote.Ref.{RefT, now}
 use denote.Triple.Both.{Both}
-use Rattle.lists.specs.declared.Found.{Found}
-use Rattle.lists.specs.declared.Found.the-variants.{At, Nothing}
-use Rattle.lists.specs.Lists.{find}
 use Rattle.message.specs.declared.Head.{Head}
 use Rattle.table.specs.Table.{rowsOf}
 use Rattle.place.specs.declared.Place.{Place}
-use Rattle.places.specs.Places.{placeAt, placesOf, openOn}
+use Rattle.places.specs.Places.{placesOf}
 use Rattle.rules.specs.View.{View}
 use Rattle.rules.specs.declared.Outcome.{Outcome}
 use Rattle.rules.specs.declared.Outcome.the-variants.{Passed}
@@ -40,15 +35,6 @@ abbrev pub viewIn : (cells : Lent) → (n : ℕ) → (list : Lent) → (k : ℕ)
 viewIn cells n list k = heldView (now (cells .entry)) n (now (list .entry)) k
 
 -- ---- what is decided
-
--- the number of the wait that a response from a can answer: the innermost one's, 'if the innermost wait of the thread has exactly this source
--- as its asked address'
-abbrev pub ifAsked : List ℕ → ℕ → Found → Found
-ifAsked l a Nothing = Nothing
-ifAsked l a (At i) = cond (eqb (placeAt l i .asked) a) (At i) Nothing
-
-abbrev pub answerAt : List ℕ → (len source thread : ℕ) → Found
-answerAt l n a t = ifAsked l a (find (openOn t) (placesOf l n))
 
 -- what the rules a to f say of a command, as an outcome
 abbrev pub ruled : Head → Ruling → Outcome

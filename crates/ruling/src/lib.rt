@@ -1,9 +1,9 @@
-// The code that decides: what the rules say of a message, with no change to anything.
+// The code that decides: what the rules say of an event or a command, with no change to anything.
 //
-// Each function is held to a definition of `rules`: the wait that a response can answer, whether an
-// event is taken, and which of the rules a to f is the first that applies to a command.
-use lists::Found;
+// Each function is held to a definition of `rules`: whether an event is taken, and which of the rules
+// a to f is the first that applies to a command.
 use message::Head;
+use places::Standing;
 use rules::Outcome;
 use tapa::Refusal;
 ghost use mathlib.Core.Path.{_≡_};
@@ -11,31 +11,12 @@ ghost use Prim.Native.Nat.{_≤_};
 ghost use Rattle.table.specs.Table.{rowsOf};
 ghost use Rattle.places.specs.Places.{Lawful};
 ghost use Rattle.rules.specs.Judge.{isAddEvent, judgeEvent, closedTo, mayAsk, busy, judgeCommand};
-ghost use Rattle.ruling.specs.Ruling.{viewIn, placesIn, answerAt, ruled};
+ghost use Rattle.ruling.specs.Ruling.{viewIn, placesIn, ruled};
 
 // What the rules a to f say of a command: back with a code, or on.
 pub enum Ruling {
     Back(u16),
     On,
-}
-
-// ---- Type 'FF'
-
-// The wait that a response from `source` can answer: the innermost one of the thread, where it
-// asks exactly this address.
-pub fn answer_at(list: &[u64; 48], len: usize, source: u16, thread: u8) -> Found
-    requires { ⌜ Lawful (now list) len ⌝ }
-    ensures { λ r. ⌜ r ≡ answerAt (now (list .entry)) len source thread ⌝ }
-{
-    let found = places::innermost(list, len, thread);
-    let Found::At(i) = found else {
-        return found;
-    };
-    let wait = places::place_at(list, len, i);
-    if wait.asked != source {
-        return Found::Nothing;
-    }
-    found
 }
 
 // ---- Type 'C0' to handler '0700'
@@ -77,12 +58,10 @@ fn may_ask(list: &[u64; 48], len: usize, thread: u8, source: u16) -> bool
     requires { ⌜ Lawful (now list) len ⌝ }
     ensures { λ r. ⌜ r ≡ mayAsk (placesIn list len) thread source ⌝ }
 {
-    match places::innermost(list, len, thread) {
-        Found::At(i) => {
-            let wait = places::place_at(list, len, i);
-            tapa::handler(wait.asked) == tapa::handler(source)
-        }
-        Found::Nothing => tapa::category(source) == tapa::TILL_DRIVER,
+    match places::standing_of(list, len, thread, tapa::handler(source)) {
+        Standing::Within => true,
+        Standing::Outside => false,
+        Standing::Empty => tapa::category(source) == tapa::TILL_DRIVER,
     }
 }
 

@@ -29,7 +29,7 @@ next-in : (s : List ℕ) (v : View) (c : Cursor) → ltb 65536 (length s) ≡ fa
     → itemsFrom v (c .tally) (c .step) (stepsBy s (c .number) i) ≡ taken s (nextBy s v c (aheadIn (c .number) i))
 unfolding itemsLeft
 next-in s v c e (next.Message a b) = rw e
-next-in s v c e (next.GiveUp t b) = rw e
+next-in s v c e (next.GiveUp t a b) = rw e
 next-in s v c e (next.Replaced a b) = rw e
 next-in s v c e next.Broken = refl
 next-in s v c e next.End = refl
@@ -65,7 +65,7 @@ nothing-by : (s : List ℕ) (v : View) (c : Cursor) (a : Ahead) → handsOut (ne
     → itemsLeft s (nextBy s v c a .view) (nextBy s v c a .cursor) ≡ []
 unfolding itemsLeft
 nothing-by s v c (ahead.Message x y) h = let z : _≡_ {A = ℕ} 0 1 = cc in absurd (omega arith)
-nothing-by s v c (ahead.GiveUp x y) h = let z : _≡_ {A = ℕ} 0 1 = cc in absurd (omega arith)
+nothing-by s v c (ahead.GiveUp t x y) h = let z : _≡_ {A = ℕ} 0 1 = cc in absurd (omega arith)
 nothing-by s v c (ahead.Replaced x y) h = let z : _≡_ {A = ℕ} 0 1 = cc in absurd (omega arith)
 nothing-by s v c ahead.Over h = refl
 nothing-by s v c (ahead.Last i) h = refl

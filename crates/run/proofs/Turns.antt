@@ -133,14 +133,14 @@ small-totals r c g h =
 
 abbrev pub Inside : List ℕ → Cursor → Ahead → Type 0
 Inside s c (ahead.Message a b) = (c .at + 3 ≤ a) × (a ≤ b) × (b ≤ length s) × (b ≤ 65536)
-Inside s c (ahead.GiveUp t b) = (c .at + 3 ≤ b) × (b ≤ 65536)
+Inside s c (ahead.GiveUp t a b) = (c .at + 3 ≤ b) × (b ≤ 65536)
 Inside s c (ahead.Replaced a b) = (c .at + 3 ≤ b) × (b ≤ 65536)
 Inside s c ahead.Over = Unit {0}
 Inside s c (ahead.Last i) = Sound c → Settles i
 
 inside-in : (s : List ℕ) (c : Cursor) → length s ≤ 65536 → (i : NextStep) → StepInside s (c .at) i → Inside s c (aheadIn (c .number) i)
 inside-in s c h (next.Message a b) x = (x .0, x .1, x .2, omega (arith, x .2))
-inside-in s c h (next.GiveUp t b) x = (x .0, omega (arith, x .1))
+inside-in s c h (next.GiveUp t a b) x = (x .0, omega (arith, x .1))
 inside-in s c h (next.Replaced a b) x = (x .0, omega (arith, x .1))
 inside-in s c h next.Broken x = λ k. omega (arith, k .fields, k .small)
 inside-in s c h next.End x = tt

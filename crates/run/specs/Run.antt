@@ -23,7 +23,7 @@ use Rattle.run.specs.declared.Item.the-variants.{Came, Over, Broken, Ref
 -- a step is a call of the router
 abbrev pub callOf : Step → Call
 callOf (message c) = messageCall c
-callOf (give-up t) = giveUp t
+callOf (give-up t a) = giveUp t a
 callOf (replaced a) = replacedCall a
 
 -- with a reply buffer of 10 bytes: before a call, and after it

@@ -155,7 +155,7 @@ endedIn r c i = record { item = i; reply = noReply; cursor = closed c; router = 
 -- what comes next, before the router is asked
 abbrev pub aheadIn : (number : ℕ) → NextStep → Ahead
 aheadIn n (next.Message a b) = ahead.Message a b
-aheadIn n (next.GiveUp t b) = ahead.GiveUp t b
+aheadIn n (next.GiveUp t a b) = ahead.GiveUp t a b
 aheadIn n (next.Replaced a b) = ahead.Replaced a b
 aheadIn n next.Broken = ahead.Last (Broken n)
 aheadIn n next.End = ahead.Over
@@ -169,7 +169,7 @@ aheadOf s c = aheadBy s c (c .stage)
 
 abbrev pub nextBy : List ℕ → View → Cursor → Ahead → Shown
 nextBy s v c (ahead.Message a b) = went v c (message (between s a b)) b
-nextBy s v c (ahead.GiveUp t b) = went v c (give-up t) b
+nextBy s v c (ahead.GiveUp t a b) = went v c (give-up t a) b
 nextBy s v c (ahead.Replaced a b) = went v c (replaced a) b
 nextBy s v c ahead.Over = ended v c (Over (totalsOf (c .tally) v))
 nextBy s v c (ahead.Last i) = ended v c i

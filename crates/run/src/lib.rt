@@ -138,13 +138,13 @@ fn on_message(router: Router, cursor: Cursor, input: &[u8], start: usize, end: u
     }
 }
 
-fn on_give_up(router: Router, cursor: Cursor, thread: u8, end: usize) -> Turn
+fn on_give_up(router: Router, cursor: Cursor, thread: u8, address: u16, end: usize) -> Turn
     requires { ⌜ Lawful router ⌝ }
     requires { ⌜ Sound cursor ⌝ }
-    ensures { λ t. ⌜ Stepped router cursor (give-up thread) end t ⌝ }
+    ensures { λ t. ⌜ Stepped router cursor (give-up thread address) end t ⌝ }
 {
     let mut reply = [0u8; 10];
-    let done = router.give_up(thread, &mut reply);
+    let done = router.give_up(thread, address, &mut reply);
     let outcome = done.outcome;
     let next = done.next;
     let after = after_step(cursor, outcome, end);
@@ -216,9 +216,19 @@ fn ended(router: Router, cursor: Cursor, item: Item) -> Turn
 
 // What comes next, before the router is asked.
 enum Ahead {
-    Message { start: usize, end: usize },
-    GiveUp { thread: u8, end: usize },
-    Replaced { address: u16, end: usize },
+    Message {
+        start: usize,
+        end: usize,
+    },
+    GiveUp {
+        thread: u8,
+        address: u16,
+        end: usize,
+    },
+    Replaced {
+        address: u16,
+        end: usize,
+    },
     Over,
     Last(Item),
 }
@@ -235,7 +245,15 @@ fn look_ahead(cursor: Cursor, input: &[u8]) -> Ahead
     }
     match fields::step_at(input, cursor.at) {
         NextStep::Message { start, next } => Ahead::Message { start, end: next },
-        NextStep::GiveUp { thread, next } => Ahead::GiveUp { thread, end: next },
+        NextStep::GiveUp {
+            thread,
+            address,
+            next,
+        } => Ahead::GiveUp {
+            thread,
+            address,
+            end: next,
+        },
         NextStep::Replaced { address, next } => Ahead::Replaced { address, end: next },
         NextStep::Broken => Ahead::Last(Item::Broken(cursor.number)),
         NextStep::End => Ahead::Over,
@@ -250,7 +268,11 @@ pub fn next(router: Router, cursor: Cursor, input: &[u8]) -> Turn
 {
     match look_ahead(cursor, input) {
         Ahead::Message { start, end } => on_message(router, cursor, input, start, end),
-        Ahead::GiveUp { thread, end } => on_give_up(router, cursor, thread, end),
+        Ahead::GiveUp {
+            thread,
+            address,
+            end,
+        } => on_give_up(router, cursor, thread, address, end),
         Ahead::Replaced { address, end } => on_replaced(router, cursor, address, end),
         Ahead::Over => {
             let tally = cursor.tally;

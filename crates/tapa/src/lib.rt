@@ -10,8 +10,9 @@ ghost use Prim.Native.Nat.{_+_, _*_};
 ghost use Rattle.tapa.specs.Address.{categoryOf, handlerOf, multi};
 ghost use Rattle.tapa.specs.Refusals.{numberOf};
 
-// The refusals 1 to 19, in the order of their numbers. 3 is a message with fewer bytes than it
-// announces (a cable lost some), 19 one with more (two came as one, or a stale byte).
+// The refusals 1 to 20, in the order of their numbers. 3 is a message with fewer bytes than it
+// announces (a cable lost some), 19 one with more (two came as one, or a stale byte). 14 is a give up
+// of an address that has no wait, 20 of one whose handler still holds a question of its own.
 pub enum Refusal {
     TooShort,
     TooLong,
@@ -32,6 +33,7 @@ pub enum Refusal {
     NoSourceKept,
     StatusNotUsable,
     MoreThanAnnounced,
+    HoldsAQuestion,
 }
 
 // Response codes, by TAPA's names.
@@ -144,6 +146,7 @@ pub fn number(refusal: Refusal) -> u8
         Refusal::NoSourceKept => 17,
         Refusal::StatusNotUsable => 18,
         Refusal::MoreThanAnnounced => 19,
+        Refusal::HoldsAQuestion => 20,
     }
 }
 

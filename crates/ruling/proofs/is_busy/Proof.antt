@@ -1,6 +1,6 @@
 -- `ruling::is_busy` meets its contract: the parts of rule e in their order. Assumes nothing.
 use mathlib.Core.Path.{sym, _∙_}
-use Rattle.ruling.proofs.Commands.{busy-asker, busy-chain, busy-slot}
+use Rattle.ruling.proofs.Commands.{busy-asker, busy-tree, busy-slot}
 use borrow.Author.Needs.{needs}
 use Rattle.ruling.proofs.is_busy.Statement.{statement}
 use Rattle.ruling.proofs.is_busy.Tie as tie
@@ -9,7 +9,7 @@ returns : tie.Need-returns
 returns c = busy-asker _ _ _ _ _ (c .before .handler .ensures) (c .if1 .taken)
 
 returns-2 : tie.Need-returns-2
-returns-2 c = busy-chain _ _ _ _ _ (c .before .before .before .handler .ensures) (c .before .before .if1 .left) (sym (c .before .stands-on .ensures) ∙ c .if2 .taken)
+returns-2 c = busy-tree _ _ _ _ _ (c .before .before .before .handler .ensures) (c .before .before .if1 .left) (sym (c .before .stands-on .ensures) ∙ c .if2 .taken)
 
 returns-3 : tie.Need-returns-3
 returns-3 c = c .taken .ensures ∙ busy-slot _ _ _ _ _ (c .before .before .before .before .handler .ensures) (c .before .before .before .if1 .left) (sym (c .before .before .stands-on .ensures) ∙ c .before .if2 .left)
