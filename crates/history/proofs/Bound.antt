@@ -13,7 +13,7 @@ use Rattle.places.proofs.Two.{two}
 use Rattle.rules.specs.Words.{singles, multis, mostOf}
 use Rattle.rules.specs.Judge.{judge}
 use Rattle.rules.proofs.Kept.{rows-by}
-use Rattle.rules.proofs.Bound.{bound, bound-all}
+use Rattle.rules.proofs.Bound.{bound, bound-all, sized, f-goes}
 use Rattle.history.specs.History.{Step, viewAfter, history, openIn, owedIn}
 use Rattle.history.specs.Promise.{Bounded}
 use Rattle.history.proofs.Law.{conduct-after, proper-after}
@@ -46,4 +46,6 @@ open-and-owed rows steps =
 pub bounded-after : (rows : List Row) (steps : List Step) → Proper rows → Bounded rows (history rows steps) (viewAfter rows steps)
 bounded-after rows steps p =
     let t = proper-after rows steps p in
-    record { table = t; bound = open-and-owed rows steps; few = bound-all (viewAfter rows steps) t (conduct-after rows steps) }
+    let v = viewAfter rows steps in
+    let c = conduct-after rows steps in
+    record { table = t; bound = open-and-owed rows steps; few = bound-all v (sized (v .rows) t) c; without-f = f-goes v t c }

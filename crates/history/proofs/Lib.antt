@@ -1,6 +1,7 @@
 pub mod Law
 pub mod Told
 pub mod Bound
+pub mod Old
 pub mod Words
 pub mod Went
 pub mod Ends

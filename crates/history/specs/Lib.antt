@@ -1,4 +1,5 @@
 pub mod History
+pub mod Old
 pub mod Marks
 pub mod Promise
 pub mod Needed

@@ -5,13 +5,15 @@ use mathlib.Core.Bool.{true}
 use mathlib.Core.List.{List, [], _∷_}
 use lib.ListN.{length}
 use Rattle.lists.specs.Lists.{In}
+use Rattle.message.specs.declared.Head.{Head}
 use Rattle.table.specs.declared.Row.{Row}
 use Rattle.table.specs.Table.{Proper}
 use Rattle.places.specs.Places.{waits, owings}
 use Rattle.rules.specs.View.{View, fresh}
 use Rattle.rules.specs.declared.Outcome.{Outcome}
-use Rattle.rules.specs.Judge.{judge}
+use Rattle.rules.specs.Judge.{judgeCommand, judge}
 use Rattle.rules.specs.Apply.{applied}
+use Rattle.rules.specs.Old.{oldCommand}
 use Rattle.rules.specs.Says.{Says}
 use Rattle.rules.specs.Words.{Worded, singles, multis, most}
 use Rattle.history.specs.History.{Step, Entry, goesOut, Each, Sent, sent, openIn, owedIn, asWaits, asOwings, ended, endsOne, isPassed, isAnswered, isGiven, Fate, Went, Concerns, total}
@@ -55,8 +57,9 @@ pub record Promise (h : List Entry) (v : View) : Type 0 where
   pub balance : total isPassed h ≡ total isAnswered h + total isGiven h + length (openIn h)
 
 -- and over an accepted table: the open commands and the owed ones 'never exceed the single handlers plus eight times the rest', and so
--- are at most 44
+-- are at most 44. So there is room for every command that a to e pass, and they decide what a to f decided
 pub record Bounded (rows : List Row) (h : List Entry) (v : View) : Type 0 where
   pub table : Proper (v .rows)
   pub bound : length (openIn h) + length (owedIn h) ≤ singles rows + 8 * multis rows
   pub few : length (v .places) ≤ most
+  pub without-f : (h : Head) → oldCommand v h ≡ judgeCommand v h

@@ -7,5 +7,7 @@
 // with its thread, and that the totals balance. Under the page's three premises about devices, no
 // response ends another command than the one that it replies to.
 //
+// The old list of rules, which had a rule f, is shown to give the same histories (specs/Old.antt).
+//
 // There is no code here, and none below: it speaks of the rules alone. specs/Promise.antt says it in
 // one record; room `demands` has it of every run of the code.

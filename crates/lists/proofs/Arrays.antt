@@ -10,11 +10,11 @@ use native.Mathlib.Omega.{arith}
 use lib.Dec.{eqb, ltb}
 use lib.ListN.{length, replicate, getD, set, length-set, length-replicate}
 use lib.Seq.{getD-set-same, getD-set-other, set-getD, ext-getD}
-use borrow.Author.Tests.{eq-eqb, ne-eqb, eqb-true, eqb-false, lt-ltb, le-ltb, ltb-true, ltb-false}
+use borrow.Author.Tests.{eq-eqb, ne-eqb, eqb-true, eqb-false, ltb-true, ltb-false}
 use Rattle.lists.specs.declared.Found.{Found}
 use Rattle.lists.specs.declared.Found.the-variants.{At}
 use Rattle.lists.specs.Lists.{count, someOf, keep, first, find, withoutAt, changedAt}
-use Rattle.lists.specs.Arrays.{held, Exact, Holding, Becoming, pushed}
+use Rattle.lists.specs.Arrays.{held, Exact, Holding, Becoming}
 use Rattle.lists.proofs.Tests.{split, differ}
 use Rattle.lists.proofs.Numbers.{end-past, change-past}
 use Rattle.lists.proofs.Cells.{same-all, set-all}
@@ -175,14 +175,11 @@ module _ {A : Type 0} (size : ℕ) (pack : A → ℕ) (unpack : ℕ → A) where
   -- ---- one more
 
   module _ (l : List ℕ) (n : ℕ) (h : Law l n) where
-    pub push-full : (x : A) → size ≤ n → Now l n (pushed size x (held unpack l n))
-    push-full x k = record { holds = rw (len unpack l n, le-ltb n size k); law = h }
-
-    pub push-room : (x : A) (v : ℕ) → n < size → v ≡ pack x → unpack v ≡ x → Now (set l n v) (n + 1) (pushed size x (held unpack l n))
+    pub push-room : (x : A) (v : ℕ) → n < size → v ≡ pack x → unpack v ≡ x → Now (set l n v) (n + 1) (x ∷ held unpack l n)
     push-room x v k p b =
         let same : getD (set l n v) n 0 ≡ v = getD-set-same l n v 0 (omega (arith, h .long)) in
         record {
-          holds = rw (add-one n, same, held-set unpack l n v n (omega arith), b, len unpack l n, lt-ltb n size k);
+          holds = rw (add-one n, same, held-set unpack l n v n (omega arith), b);
           law = record {
             few = omega arith;
             long = simp length-set (h .long);

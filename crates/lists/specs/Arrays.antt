@@ -1,9 +1,7 @@
 -- An array that holds a list. Each element is packed into a number. The first n cells are in use, the oldest element first; the rest are zeros.
 use Prim.Native.Nat.{ℕ, zero, suc, _≤_}
 use mathlib.Core.Path.{_≡_}
-use mathlib.Core.Bool.{cond}
 use mathlib.Core.List.{List, [], _∷_}
-use lib.Dec.{ltb}
 use lib.ListN.{length, getD}
 
 module _ {A : Type 0} where
@@ -27,7 +25,3 @@ module _ {A : Type 0} where
   pub record Becoming (size : ℕ) (pack : A → ℕ) (unpack : ℕ → A) (l : List ℕ) (n : ℕ) (xs : List A) : Type 0 where
     pub holds : held unpack l n ≡ xs
     pub law : Holding size pack unpack l n
-
-  -- one element more, where there is room
-  abbrev pub pushed : ℕ → A → List A → List A
-  pushed size x xs = cond (ltb (length xs) size) (x ∷ xs) xs

@@ -6,7 +6,7 @@ use lib.ListN.{getD}
 use Rattle.lists.specs.declared.Found.{Found}
 use Rattle.lists.specs.declared.Found.the-variants as found
 use Rattle.lists.specs.Lists.{someOf, find, keep}
-use Rattle.lists.specs.Arrays.{held, Holding, Becoming, pushed as pushedTo}
+use Rattle.lists.specs.Arrays.{held, Holding, Becoming}
 use Rattle.tapa.specs.Address.{handlerOf}
 use Rattle.place.specs.declared.Place.{Place}
 pub use Rattle.place.specs.Place.{pack, unpack, Packed, isOpen, isOwed, onThread, openOn, owedOn, asksExactly, owesExactly, asks, stands, standsOn, holdsOn, standsIn, onSlot, owedBy, notOwedBy, owing}
@@ -30,10 +30,6 @@ Lawful l n = Holding 48 pack unpack l n
 -- what a change of the array shows: it holds these places, and keeps the law
 abbrev pub Becomes : List ℕ → ℕ → List Place → Type 0
 Becomes l n ps = Becoming 48 pack unpack l n ps
-
--- one place more, where there is room
-abbrev pub pushed : Place → List Place → List Place
-pushed p ps = pushedTo 48 p ps
 
 abbrev pub waits : List Place → List Place
 waits ps = keep isOpen ps

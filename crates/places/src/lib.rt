@@ -12,8 +12,10 @@
 use lists::Found;
 use place::Place;
 ghost use mathlib.Core.Path.{_≡_};
+ghost use mathlib.Core.List.{_∷_};
+ghost use Prim.Native.Nat.{_<_};
 ghost use Rattle.lists.specs.Lists.{find, someOf, keep, withoutAt, changedAt};
-ghost use Rattle.places.specs.Places.{placesOf, placeAt, Lawful, Becomes, pushed, owing, leafBy, leafOf, standingOf};
+ghost use Rattle.places.specs.Places.{placesOf, placeAt, Lawful, Becomes, owing, leafBy, leafOf, standingOf};
 ghost use Rattle.places.specs.Places.{owesExactly, standsOn, standsIn, onSlot, notOwedBy};
 
 // What a thread's tree has of an exact address: the number of the wait that asks it, a leaf; that
@@ -167,14 +169,13 @@ pub fn taken(list: &[u64; 48], n: usize, handler: u16, thread: u8) -> bool
 
 // ---- changes, each with the next count
 
-// One place more, the newest. A full list stays as it is.
+// One place more, the newest. It is asked only where there is room, so that no place is dropped: the
+// law of a router's state gives it, with at most 44 places (rules, Bound).
 pub fn push(list: &mut [u64; 48], n: usize, place: Place) -> usize
     requires { ⌜ Lawful (now list) n ⌝ }
-    ensures { λ r. ⌜ Becomes (now (list .exit)) r (pushed place (placesOf (now (list .entry)) n)) ⌝ }
+    requires { ⌜ n < 48 ⌝ }
+    ensures { λ r. ⌜ Becomes (now (list .exit)) r (place ∷ placesOf (now (list .entry)) n) ⌝ }
 {
-    if 48 <= n {
-        return n;
-    }
     list[n] = place::pack_of(place);
     n + 1
 }

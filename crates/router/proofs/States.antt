@@ -1,5 +1,5 @@
 -- From a step in place to the state by value; and that a state is known by its view.
-use Prim.Native.Nat.{ℕ}
+use Prim.Native.Nat.{ℕ, _<_}
 use mathlib.Core.Path.{_≡_, ap}
 use mathlib.Core.List.{List}
 use lib.ListN.{length}
@@ -7,11 +7,13 @@ use Rattle.table.specs.declared.Row.{Row}
 use Rattle.table.proofs.Once as table
 use Rattle.place.specs.declared.Place.{Place}
 use Rattle.places.proofs.Once as held
+use Rattle.places.proofs.Points.{len}
 use Rattle.rules.specs.View.{View}
 use Rattle.rules.specs.declared.Outcome.{Outcome}
 use Rattle.rules.specs.Judge.{Call, giveUp, judge, judgeGiveUp}
 use Rattle.rules.specs.Apply.{applied}
 use Rattle.rules.proofs.Kept as kept
+use Rattle.rules.proofs.Bound.{room-left}
 use Rattle.rules.proofs.Untouched.{give-up-rows}
 use Rattle.routing.specs.declared.Step.{Step}
 use Rattle.ruling.specs.Ruling.{heldView}
@@ -24,6 +26,10 @@ views v w p q = go (v .rows) (w .rows) (v .places) (w .places) p q
   where
     go : (a b : List Row) (c d : List Place) → a ≡ b → c ≡ d → _≡_ {A = View} (record { rows = a; places = c }) (record { rows = b; places = d })
     go a b c d p q = cc
+
+-- the law gives room for one place more, on which routing a message in place rests
+pub has-room : (r : Router) → Lawful r → r .len < 48
+has-room r g = rw (len (r .list) (r .len)) at (room-left (viewOf r) (g .table) (g .conduct))
 
 module _ (r : Router) (g : Lawful r) (room : ℕ) (call : Call) where
   pub replaces : (c l : List ℕ) (s : Step)

@@ -1,14 +1,14 @@
 -- Any other type: what is done by what the rules say.
-use Prim.Native.Nat.{ℕ, _≤_, _<_}
+use Prim.Native.Nat.{ℕ, _≤_}
 use mathlib.Core.Path.{_≡_, refl, _∙_}
-use mathlib.Core.List.{List}
+use mathlib.Core.List.{List, _∷_}
 use lib.ListN.{length}
-use borrow.Author.Tests.{le-ltb, lt-ltb}
+use borrow.Author.Tests.{le-ltb}
 use Rattle.lists.specs.Lists.{onto}
 use Rattle.message.specs.declared.Head.{Head}
 use Rattle.message.specs.Message.{responded, responseOf}
 use Rattle.place.specs.declared.Place.{Place}
-use Rattle.places.specs.Places.{placesOf, Becomes, pushed}
+use Rattle.places.specs.Places.{placesOf, Becomes}
 use Rattle.places.specs.Places as places
 use Rattle.rules.specs.declared.Outcome.{Outcome}
 use Rattle.rules.specs.declared.Outcome.the-variants.{Passed}
@@ -31,11 +31,7 @@ module _ (l : List ℕ) (n : ℕ) (g : places.Lawful l n) (h : Head) (o : Outcom
       → u ≡ Passed (h .source) (h .destination) (h .kind) (h .thread)
       → w ≡ place (h .source) (h .destination) (h .kind) (h .thread)
       → Passed (h .source) (h .destination) (h .kind) (h .thread) ≡ o
-      → length (placesOf l n) < 48
-      → Becomes m more (pushed w (placesOf l n))
+      → Becomes m more (w ∷ placesOf l n)
       → Writing o (placesOf l n) m b b (record { outcome = u; len = more })
-  passes more m u w d f e k p =
-      rw (← e) (record {
-        placing = record { outcome = d; places = record { holds = p .holds ∙ rw (lt-ltb (length (placesOf l n)) 48 k, f); law = p .law } };
-        reply = refl;
-      })
+  passes more m u w d f e p =
+      rw (← e) (record { placing = record { outcome = d; places = record { holds = p .holds ∙ rw f; law = p .law } }; reply = refl })

@@ -4,6 +4,10 @@
 // call. `ruling` decides on events and commands, `places` finds what a response or a give up is about,
 // and what follows is done here. Each is held to the rules' own definitions,
 // `judge..` and `applied`. `router` lends them the arrays of its state.
+//
+// A command that is passed becomes a place, so what works in place on a message rests on room for one
+// place more (`len < 48`). The law of a router's state gives it: at most 44 places are in use (rules,
+// Bound; router, `has-room`).
 use lists::Found;
 use message::Coded;
 use message::Head;
@@ -14,7 +18,7 @@ use rules::Outcome;
 use ruling::Ruling;
 use tapa::Refusal;
 ghost use mathlib.Core.Path.{_≡_};
-ghost use Prim.Native.Nat.{_≤_};
+ghost use Prim.Native.Nat.{_≤_, _<_};
 ghost use lib.ListN.{length};
 ghost use Rattle.message.specs.Message.{codeOf, partOf};
 ghost use Rattle.table.specs.Table.{Column};
@@ -162,7 +166,8 @@ fn wait_of(head: Head) -> Place
     }
 }
 
-// Does what the rules say: a response into the reply buffer, or one place more.
+// Does what the rules say: a response into the reply buffer, or one place more. No rule tests for
+// room, so that it is required here.
 fn on_command(
     cells: &[u32; 16],
     count: usize,
@@ -172,6 +177,7 @@ fn on_command(
     reply: &mut [u8],
 ) -> Step
     requires { ⌜ places.Lawful (now list) len ⌝ }
+    requires { ⌜ len < 48 ⌝ }
     requires { ⌜ count ≤ 16 ⌝ }
     requires { ⌜ 10 ≤ length (now reply) ⌝ }
     ensures { λ s. ⌜ Wrote (judgeCommand (viewIn cells count list len) head) list len reply s ⌝ }
@@ -203,6 +209,7 @@ fn on_type(
     reply: &mut [u8],
 ) -> Step
     requires { ⌜ places.Lawful (now list) len ⌝ }
+    requires { ⌜ len < 48 ⌝ }
     requires { ⌜ Column (now cells) count ⌝ }
     requires { ⌜ 10 ≤ length (now reply) ⌝ }
     ensures { λ s. ⌜ Stepped (judgeKind (viewIn cells count list len) head (codeOf (partOf (now (message .entry))))) cells count list len reply s ⌝ }
@@ -228,6 +235,7 @@ pub fn on_message(
     reply: &mut [u8],
 ) -> Step
     requires { ⌜ places.Lawful (now list) len ⌝ }
+    requires { ⌜ len < 48 ⌝ }
     requires { ⌜ Column (now cells) count ⌝ }
     ensures { λ s. ⌜ OnMessage cells count list len message reply s ⌝ }
 {

@@ -6,7 +6,7 @@ use mathlib.Core.List.{List, [], _∷_}
 use mathlib.Core.Option.{Option, none, some}
 use lib.Dec.{eqb, ltb}
 use borrow.Author.Tests.{not-false, ltb-false, eqb-true}
-use Rattle.lists.specs.Lists.{someOf, first}
+use Rattle.lists.specs.Lists.{someOf, first, In}
 use Rattle.lists.proofs.Tests.{split, and-yes, checks-are}
 use Rattle.lists.proofs.First.{first-yes}
 use Rattle.tapa.specs.Address.{handlerOf}
@@ -26,11 +26,12 @@ use Rattle.rules.specs.declared.Outcome.{Outcome}
 use Rattle.rules.specs.declared.Outcome.the-variants.{Passed, Answered, Swallowed, Event, Turned, Given, Reset, Refused}
 use Rattle.rules.specs.Judge.{answerable, replyTests, late, reply, judgeResponse, isAddEvent, judgeEvent, judgeCommand}
 use Rattle.rules.specs.Judge.{commonTests, judgeKind, judgeRead, judgeMessage, yields, judgeGiveUp, judgeReplaced, Call, message, giveUp, replaced, judge}
+use Rattle.rules.specs.Words.{turnCodes}
 use Rattle.rules.proofs.Steps.{NoRule, command-is}
 
 -- ---- an outcome, and what was so
 
--- a passed command met every rule, a to f
+-- a passed command met every rule, a to e
 pub record Fit (v : View) (asker asked kind t : ℕ) : Type 0 where
   pub asker-listed : listed (handlerOf asker) (v .rows) ≡ true
   pub thread-small : t ≤ 7
@@ -55,7 +56,7 @@ Allowed v (Passed asker asked kind t) = Fit v asker asked kind t
 Allowed v (Answered asked asker t k) = Leaf v asker asked t
 Allowed v (Swallowed asked t) = (someOf (owesExactly asked t) (v .places) ≡ true) × (t ≤ 7)
 Allowed v Event = openedAt eventHandler (v .rows) ≡ true
-Allowed v (Turned asker asked t k) = (listed (handlerOf asker) (v .rows) ≡ true) × (t ≤ 7)
+Allowed v (Turned asker asked t k) = (listed (handlerOf asker) (v .rows) ≡ true) × (t ≤ 7) × In k turnCodes
 Allowed v (Given asker asked t) = Leaf v asker asked t
 Allowed v (Reset h) = Idle v h
 Allowed v (Refused r) = Unit {0}
@@ -99,7 +100,7 @@ event-is v = split (openedAt eventHandler (v .rows)) (λ p. rw p p) (λ p. rw p 
 
 command-allowed : (v : View) (h : Head) → listed (handlerOf (h .source)) (v .rows) ≡ true → h .thread ≤ 7 → Allowed v (judgeCommand v h)
 command-allowed v h there small =
-    command-is v h (Allowed v) (λ code. (there, small)) (λ n. record { asker-listed = there; thread-small = small; met = n })
+    command-is v h (Allowed v) (λ code r. (there, small, r)) (λ n. record { asker-listed = there; thread-small = small; met = n })
 
 -- ---- a message
 

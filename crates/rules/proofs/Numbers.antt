@@ -23,7 +23,7 @@ use Rattle.rules.specs.View.{View}
 use Rattle.rules.specs.Judge.{answerable, isAddEvent, closedTo, mayAsk, busy, judgeKind, message, giveUp, replaced, judge}
 use Rattle.rules.specs.Said.{saidOutcome}
 use Rattle.rules.proofs.Steps.{message-small, message-unread, message-unlisted, message-thread, message-kind, kind-response, kind-event, kind-command}
-use Rattle.rules.proofs.Steps.{event-taken, event-refused, closed-to, turned-a, turned-b, turned-c, turned-d, turned-e, turned-f, passes}
+use Rattle.rules.proofs.Steps.{event-taken, event-refused, closed-to, turned-a, turned-b, turned-c, turned-d, turned-e, passes}
 use Rattle.rules.proofs.Steps.{late-swallowed, late-stray, response-missing, response-late, response-holding, response-wrong, response-answered}
 use Rattle.rules.proofs.Steps.{give-up-small, give-up-thread, give-up-none, give-up-holding, give-up-given, replaced-unlisted, replaced-stands, replaced-reset}
 
@@ -118,12 +118,8 @@ module _ (v : View) (room : ℕ) (s : List ℕ) where
                       message-e x = ap saidOutcome (by-kind ∙ kind-command v h _ k e ∙ turned-e v h a b c d x)
 
                       module _ (f : busy (v .places) (h .source) (handlerOf (h .destination)) (h .thread) ≡ false) where
-                        pub message-f : 48 ≤ length (v .places)
-                            → saidOutcome (judge v room (message s)) ≡ says turned (responseOf (h .source) (h .destination) (h .thread) 0xFFF6)
-                        message-f x = ap saidOutcome (by-kind ∙ kind-command v h _ k e ∙ turned-f v h a b c d f x)
-
-                        pub message-passed : length (v .places) < 48 → saidOutcome (judge v room (message s)) ≡ says passed (h .destination ∷ [])
-                        message-passed x = ap saidOutcome (by-kind ∙ kind-command v h _ k e ∙ passes v h a b c d f x)
+                        pub message-passed : saidOutcome (judge v room (message s)) ≡ says passed (h .destination ∷ [])
+                        message-passed = ap saidOutcome (by-kind ∙ kind-command v h _ k e ∙ passes v h a b c d f)
 
 -- ---- Give up
 module _ (v : View) (room t a : ℕ) where

@@ -42,7 +42,7 @@ module _ (v : View) (h : Head) where
           (λ _. (k, refl, refl, refl, refl))
 
   command-says : (code : Coded) → Spoken h code (judgeCommand v h)
-  command-says code = command-is v h (Spoken h code) (λ k. (refl, refl, refl)) (λ n. (refl, refl, refl, refl))
+  command-says code = command-is v h (Spoken h code) (λ k r. (refl, refl, refl)) (λ n. (refl, refl, refl, refl))
 
   kind-says : (code : Coded) → Spoken h code (judgeKind v h code)
   unfolding judgeKind

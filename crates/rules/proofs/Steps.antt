@@ -1,16 +1,16 @@
 -- What `judge` decides, one law for each way that a call can go. The code is held to the rules by these: a new check is one entry of the rules and
 -- one law here. A law that speaks of what a function answered takes it by name, with the equation that says what it is.
 use Prim.Native.Nat.{ℕ, _≤_, _<_}
-use mathlib.Core.Path.{_≡_, ap, _∙_}
+use mathlib.Core.Path.{_≡_, refl, ap, _∙_}
+use mathlib.Core.Logic.{inl, inr}
 use mathlib.Core.Bool.{true, false, and-false}
 use mathlib.Core.List.{List}
 use mathlib.Core.Option.{Option, none, some}
-use lib.ListN.{length}
-use borrow.Author.Tests.{lt-ltb, le-ltb, lt-leb, le-leb, leb-false, eq-eqb, ne-eqb, not-false}
-use Rattle.lists.specs.Lists.{checks, someOf}
-use Rattle.lists.proofs.Tests.{differ, checks-are}
+use borrow.Author.Tests.{lt-ltb, le-ltb, eq-eqb, ne-eqb, not-false}
+use Rattle.lists.specs.Lists.{checks, someOf, In}
+use Rattle.lists.proofs.Tests.{checks-are}
 use Rattle.tapa.specs.Address.{categoryOf, handlerOf}
-use Rattle.tapa.specs.Codes.{invalidDestination, handlerError, handlerBusy, insufficientResources, mustBeOpened, unsupportedOperation, response, openHandler, eventHandler}
+use Rattle.tapa.specs.Codes.{invalidDestination, handlerError, handlerBusy, mustBeOpened, unsupportedOperation, response, openHandler, eventHandler}
 use Rattle.types.specs.Types.{known}
 use Rattle.tapa.specs.declared.Refusal.{Refusal}
 use Rattle.tapa.specs.declared.Refusal.the-variants.{NotInTable, ThreadAbove7, NoResponseCode, StrayResponse, WrongAsker, BufferTooSmall, EventCannotBeTaken, NothingToGiveUp, StandsInAWait, HoldsAQuestion}
@@ -28,6 +28,7 @@ use Rattle.rules.specs.View.{View}
 use Rattle.rules.specs.declared.Outcome.{Outcome}
 use Rattle.rules.specs.declared.Outcome.the-variants.{Passed, Answered, Swallowed, Event, Given, Reset, Refused}
 use Rattle.rules.specs.Judge.{answerable, replyTests, late, reply, judgeResponse, isAddEvent, judgeEvent, closedTo, mayAsk, busy, turned, rules, judgeCommand, commonTests, judgeKind, judgeRead, judgeMessage, yields, judgeGiveUp, judgeReplaced}
+use Rattle.rules.specs.Words.{turnCodes}
 
 -- ---- a message: the common checks
 module _ (v : View) (room : ℕ) (s : List ℕ) where
@@ -119,43 +120,33 @@ module _ (v : View) (h : Head) where
           turned-e e = rw (a, b, c, d, e)
 
           module _ (e : busy (v .places) (h .source) (handlerOf (h .destination)) (h .thread) ≡ false) where
-            pub turned-f : 48 ≤ length (v .places) → judgeCommand v h ≡ turned h insufficientResources
+            pub passes : judgeCommand v h ≡ Passed (h .source) (h .destination) (h .kind) (h .thread)
             unfolding judgeCommand
-            turned-f f = rw (a, b, c, d, e, le-leb 48 (length (v .places)) f)
+            passes = rw (a, b, c, d, e)
 
-            pub passes : length (v .places) < 48 → judgeCommand v h ≡ Passed (h .source) (h .destination) (h .kind) (h .thread)
-            unfolding judgeCommand
-            passes f = rw (a, b, c, d, e, lt-leb 48 (length (v .places)) f)
-
--- none of the rules a to f applies to a command
+-- none of the rules a to e applies to a command
 pub record NoRule (v : View) (asker asked kind t : ℕ) : Type 0 where
   pub asked-listed : listed (handlerOf asked) (v .rows) ≡ true
   pub type-known : known (categoryOf asked) kind ≡ true
   pub open-or-opens : closedTo (v .rows) (handlerOf asked) kind ≡ false
   pub may : mayAsk (v .places) t asker ≡ true
   pub free : busy (v .places) asker (handlerOf asked) t ≡ false
-  pub room : length (v .places) < 48
 
--- what holds of whatever is turned back, and of what is passed where no rule applies, holds of a command. Nothing else counts the rules.
-pub command-is : (v : View) (h : Head) (P : Outcome → Type 0) → ((code : ℕ) → P (turned h code))
+-- what holds of whatever is turned back with a code of the rules, and of what is passed where no rule applies, holds of a command. Nothing else
+-- counts the rules.
+pub command-is : (v : View) (h : Head) (P : Outcome → Type 0) → ((code : ℕ) → In code turnCodes → P (turned h code))
     → (NoRule v (h .source) (h .destination) (h .kind) (h .thread) → P (Passed (h .source) (h .destination) (h .kind) (h .thread))) → P (judgeCommand v h)
 unfolding judgeCommand
 command-is v h P f g =
-    checks-are P (rules v h) (Passed (h .source) (h .destination) (h .kind) (h .thread)) (f _, (f _, (f _, (f _, (f _, (f _, tt))))))
+    checks-are P (rules v h) (Passed (h .source) (h .destination) (h .kind) (h .thread))
+    (f _ (inl refl), (f _ (inr (inl refl)), (f _ (inr (inr (inl refl))), (f _ (inr (inr (inr (inl refl)))), (f _ (inr (inr (inr (inr (inl refl))))), tt)))))
     (λ a. g (record {
       asked-listed = not-false _ (a .0);
       type-known = not-false _ (a .1 .0);
       open-or-opens = a .1 .1 .0;
       may = not-false _ (a .1 .1 .1 .0);
       free = a .1 .1 .1 .1 .0;
-      room = leb-false 48 (length (v .places)) (a .1 .1 .1 .1 .1 .0);
     }))
-
--- a passed command finds room
-pub passed-room : (v : View) (h : Head) → Passed (h .source) (h .destination) (h .kind) (h .thread) ≡ judgeCommand v h → length (v .places) < 48
-passed-room v h e =
-    command-is v h (λ (o : Outcome). Passed (h .source) (h .destination) (h .kind) (h .thread) ≡ o → length (v .places) < 48)
-    (λ code q. differ (cc)) (λ n q. n .room) e
 
 -- ---- a response
 module _ (places : List Place) (h : Head) where

@@ -76,7 +76,7 @@ swallowed-marks v asked t = refl
 
 -- a command opens and closes nothing
 pub command-rows : (v : View) (h : Head) → v .rows ≡ rowsAfter (judgeCommand v h) v
-command-rows v h = command-is v h (λ (o : Outcome). v .rows ≡ rowsAfter o v) (λ code. refl) (λ n. refl)
+command-rows v h = command-is v h (λ (o : Outcome). v .rows ≡ rowsAfter o v) (λ code r. refl) (λ n. refl)
 
 -- neither does a late response
 pub late-rows : (v : View) (h : Head) → v .rows ≡ rowsAfter (late (v .places) h) v

@@ -3,11 +3,10 @@ use Prim.Native.Nat.{ℕ}
 use mathlib.Core.Bool.{Bool, not, _&&_, _||_, cond}
 use mathlib.Core.List.{List, [], _∷_}
 use mathlib.Core.Option.{Option, none, some}
-use lib.Dec.{eqb, leb, ltb}
-use lib.ListN.{length}
+use lib.Dec.{eqb, ltb}
 use Rattle.lists.specs.Lists.{checks, someOf, first}
 use Rattle.tapa.specs.Address.{categoryOf, handlerOf, tillDriver}
-use Rattle.tapa.specs.Codes.{invalidDestination, handlerError, handlerBusy, insufficientResources, mustBeOpened, unsupportedOperation, response, addEvent, openHandler, eventHandler}
+use Rattle.tapa.specs.Codes.{invalidDestination, handlerError, handlerBusy, mustBeOpened, unsupportedOperation, response, addEvent, openHandler, eventHandler}
 use Rattle.types.specs.Types.{known}
 use Rattle.tapa.specs.declared.Refusal.the-variants.{NotInTable, ThreadAbove7, NoResponseCode, StrayResponse, WrongAsker, BufferTooSmall, EventCannotBeTaken, NothingToGiveUp, StandsInAWait, HoldsAQuestion}
 use Rattle.message.specs.declared.Head.{Head}
@@ -79,7 +78,7 @@ busy places asker h t = eqb h (handlerOf asker) || (someOf (standsOn t h) places
 abbrev pub turned : Head → ℕ → Outcome
 turned h code = Turned (h .source) (h .destination) (h .thread) code
 
--- 'The first that applies is turned back with its code', a to f
+-- 'The first that applies is turned back with its code', a to e
 abbrev pub rules : View → Head → List (Bool × Outcome)
 rules v h =
     (not (listed (handlerOf (h .destination)) (v .rows)), turned h invalidDestination)
@@ -87,7 +86,6 @@ rules v h =
     ∷ (closedTo (v .rows) (handlerOf (h .destination)) (h .kind), turned h mustBeOpened)
     ∷ (not (mayAsk (v .places) (h .thread) (h .source)), turned h handlerError)
     ∷ (busy (v .places) (h .source) (handlerOf (h .destination)) (h .thread), turned h handlerBusy)
-    ∷ (leb 48 (length (v .places)), turned h insufficientResources)
     ∷ []
 
 -- 'Otherwise it is passed and becomes' a wait of the thread's tree.

@@ -5,8 +5,10 @@ use mathlib.Core.Path.{_≡_}
 use mathlib.Core.Bool.{Bool, true, false, not, _&&_, _||_}
 use mathlib.Core.List.{List, [], _∷_, map}
 use lib.Dec.{eqb}
+use lib.ListN.{length}
 use Rattle.lists.specs.Lists.{count, someOf, keep, All}
 use Rattle.tapa.specs.Address.{categoryOf, handlerOf, multi, tillDriver}
+use Rattle.tapa.specs.Codes.{invalidDestination, handlerError, handlerBusy, mustBeOpened, unsupportedOperation}
 use Rattle.table.specs.declared.Row.{Row}
 use Rattle.table.specs.Table.{listed, isMulti}
 use Rattle.place.specs.declared.Place.{Place}
@@ -72,6 +74,12 @@ pub record Worded (v : View) : Type 0 where
   pub single-once : (h : ℕ) → multi h ≡ false → count (asks h) (v .places) ≤ 1
   pub multi-once : (h t : ℕ) → multi h ≡ true → count (asksOn h t) (v .places) ≤ 1
 
+-- ---- with what a command is turned back
+
+-- the codes of the rules a to e, in their order
+abbrev pub turnCodes : List ℕ
+turnCodes = invalidDestination ∷ unsupportedOperation ∷ mustBeOpened ∷ handlerError ∷ handlerBusy ∷ []
+
 -- ---- how many waits and owings a table can have
 
 abbrev pub singles : List Row → ℕ
@@ -84,6 +92,11 @@ multis rows = count isMulti rows
 abbrev pub mostOf : List Row → ℕ
 mostOf rows = singles rows + 8 * multis rows
 
--- of any accepted table: 12 single and 4 multi rows
+-- 'at most 16 handlers, of which at most 4 serve several threads'
+pub record Sized (rows : List Row) : Type 0 where
+  pub handlers : length rows ≤ 16
+  pub several : multis rows ≤ 4
+
+-- of any such table: 'waits and owings cannot pass 12 + 8 x 4 = 44'
 abbrev pub most : ℕ
 most = 44

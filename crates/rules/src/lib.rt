@@ -8,6 +8,9 @@
 // The conduct is the law that the rules keep: each thread's waits are a tree with one till driver as
 // its root and no handler in it twice, and no handler has more commands under way than it may. That
 // it is kept is proved here, without a line of code; the code of the next room is held to these rules.
+//
+// From the conduct comes the bound: at most 44 places over an accepted table, so there is room for each
+// command that is passed. An old list of rules tested for it; specs/Old.antt keeps it.
 
 use tapa::Refusal;
 

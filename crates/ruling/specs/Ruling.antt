@@ -36,7 +36,7 @@ viewIn cells n list k = heldView (now (cells .entry)) n (now (list .entry)) k
 
 -- ---- what is decided
 
--- what the rules a to f say of a command, as an outcome
+-- what the rules a to e say of a command, as an outcome
 abbrev pub ruled : Head → Ruling → Outcome
 ruled h (Back code) = turned h code
 ruled h On = Passed (h .source) (h .destination) (h .kind) (h .thread)

@@ -1,7 +1,7 @@
 // The code that decides: what the rules say of an event or a command, with no change to anything.
 //
 // Each function is held to a definition of `rules`: whether an event is taken, and which of the rules
-// a to f is the first that applies to a command.
+// a to e is the first that applies to a command.
 use message::Head;
 use places::Standing;
 use rules::Outcome;
@@ -13,7 +13,7 @@ ghost use Rattle.places.specs.Places.{Lawful};
 ghost use Rattle.rules.specs.Judge.{isAddEvent, judgeEvent, closedTo, mayAsk, busy, judgeCommand};
 ghost use Rattle.ruling.specs.Ruling.{viewIn, placesIn, ruled};
 
-// What the rules a to f say of a command: back with a code, or on.
+// What the rules a to e say of a command: back with a code, or on.
 pub enum Ruling {
     Back(u16),
     On,
@@ -79,7 +79,7 @@ fn is_busy(list: &[u64; 48], len: usize, source: u16, handler: u16, thread: u8) 
     places::taken(list, len, handler, thread)
 }
 
-// The first of the rules a to f that applies.
+// The first of the rules a to e that applies.
 pub fn rule_for(cells: &[u32; 16], count: usize, list: &[u64; 48], len: usize, head: Head) -> Ruling
     requires { ⌜ Lawful (now list) len ⌝ }
     requires { ⌜ count ≤ 16 ⌝ }
@@ -100,9 +100,6 @@ pub fn rule_for(cells: &[u32; 16], count: usize, list: &[u64; 48], len: usize, h
     }
     if is_busy(list, len, head.source, handler, head.thread) {
         return Ruling::Back(tapa::HANDLER_BUSY);
-    }
-    if 48 <= len {
-        return Ruling::Back(tapa::INSUFFICIENT_RESOURCES);
     }
     Ruling::On
 }

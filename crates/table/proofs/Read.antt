@@ -10,7 +10,7 @@ use lib.ListN.{length, take, set, length-append}
 use lib.Seq.{append-snoc, take-all, length-take-le}
 use borrow.Author.Tests.{ltb-true, ltb-false, lt-ltb, le-ltb}
 use Rattle.lists.proofs.Tests.{split, differ}
-use Rattle.lists.proofs.Arrays.{len, push-room, none-held as nothing}
+use Rattle.lists.proofs.Arrays.{push-room, none-held as nothing}
 use Rattle.tapa.specs.Said.{refused}
 use Rattle.tapa.specs.declared.Refusal.the-variants.{RowCountOrShape}
 use Rattle.table.specs.declared.Row.{Row}
@@ -36,8 +36,7 @@ module _ (t : Rows) (r : Row) (few : t .count < 16) where
   unfolding withRow
   with-rows h =
       rw (lt-ltb (t .count) 16 few)
-      (push-room 16 pack unpack (t .cells) (t .count) h r (pack r) few refl (row-back r) .holds
-      ∙ rw (len unpack (t .cells) (t .count), lt-ltb (t .count) 16 few))
+      (push-room 16 pack unpack (t .cells) (t .count) h r (pack r) few refl (row-back r) .holds)
 
   with-count : (withRow t r) .count ≡ t .count + 1
   unfolding withRow

@@ -18,10 +18,6 @@ handlerError = 0xFFF3
 abbrev pub handlerBusy : ℕ
 handlerBusy = 0xFFF5
 
--- rule f, and a store that is full
-abbrev pub insufficientResources : ℕ
-insufficientResources = 0xFFF6
-
 -- rule c
 abbrev pub mustBeOpened : ℕ
 mustBeOpened = 0xFFF7
@@ -39,6 +35,10 @@ abbrev pub noMatchingEvents : ℕ
 noMatchingEvents = 0xFF73
 
 -- ---- codes of the data store (Tables 124 to 148)
+
+-- a store that is full
+abbrev pub insufficientResources : ℕ
+insufficientResources = 0xFFF6
 
 -- 'Invalid record pointer.'
 abbrev pub invalidRecordPointer : ℕ

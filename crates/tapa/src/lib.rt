@@ -45,8 +45,6 @@ pub const HANDLER_ERROR: u16 = 0xFFF3;
 
 pub const HANDLER_BUSY: u16 = 0xFFF5;
 
-pub const INSUFFICIENT_RESOURCES: u16 = 0xFFF6;
-
 pub const MUST_BE_OPENED: u16 = 0xFFF7;
 
 pub const UNSUPPORTED_OPERATION: u16 = 0xFFFB;
@@ -54,6 +52,8 @@ pub const UNSUPPORTED_OPERATION: u16 = 0xFFFB;
 pub const NO_EVENTS: u16 = 0xFF72;
 
 pub const NO_MATCHING_EVENTS: u16 = 0xFF73;
+
+pub const INSUFFICIENT_RESOURCES: u16 = 0xFFF6;
 
 pub const INVALID_RECORD_POINTER: u16 = 0xFF50;
 

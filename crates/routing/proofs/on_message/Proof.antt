@@ -22,22 +22,25 @@ told b c e =
 
 returns : tie.Need-returns
 returns c = let s = c .before .before .before .before in
-    unstepped _ _ (s .pre .0) _ _ (s .pre .1) _ _ BufferTooSmall _ (c .refuse .ensures) (message-small _ _ _ (c .before .if1 .taken))
+    unstepped _ _ (s .pre .0) _ _ (s .pre .1 .1) _ _ BufferTooSmall _ (c .refuse .ensures) (message-small _ _ _ (c .before .if1 .taken))
 
 returns-2 : tie.Need-returns-2
 returns-2 c = let s = c .before .before .before .before .before .before .before .before .before .before .before .before in
-    unstepped _ _ (s .pre .0) _ _ (s .pre .1) _ _ NotInTable _ (c .refuse3 .ensures)
+    unstepped _ _ (s .pre .0) _ _ (s .pre .1 .1) _ _ NotInTable _ (c .refuse3 .ensures)
     (message-unlisted _ _ _ (c .before .before .before .before .before .before .before .before .before .if1 .left) _ (c .before .before .before .before .before .before .before .before .read .ensures) _ (c .before .before .before .before .before .before .head .given .1) (told false (c .before .before) (not-true _ (c .before .if2 .taken))))
 
 returns-3 : tie.Need-returns-3
 returns-3 c = let s = c .before .before .before .before .before .before .before .before .before .before .before .before .before .before in
-    unstepped _ _ (s .pre .0) _ _ (s .pre .1) _ _ ThreadAbove7 _ (c .refuse4 .ensures)
+    unstepped _ _ (s .pre .0) _ _ (s .pre .1 .1) _ _ ThreadAbove7 _ (c .refuse4 .ensures)
     (message-thread _ _ _ (c .before .before .before .before .before .before .before .before .before .before .before .if1 .left) _ (c .before .before .before .before .before .before .before .before .before .before .read .ensures) _ (c .before .before .before .before .before .before .before .before .head .given .1) (told true (c .before .before .before .before) (not-false _ (c .before .before .before .if2 .left)))
     (c .before .if3 .taken))
 
+on-type-requires : tie.Need-on-type-requires
+on-type-requires c κs = let s = c .before .before .before .before .before .before .before .before .before .before .before .before .before .before .before .before in (s .pre .0, (s .pre .1 .0, (s .pre .1 .1, c .before .before .before .before .before .before .before .before .before .before .before .before .before .if1 .left)))
+
 returns-4 : tie.Need-returns-4
 returns-4 c = let s = c .before .before .before .before .before .before .before .before in
-    unstepped _ _ (s .pre .0) _ _ (s .pre .1) _ _ _ _ (c .refuse2 .ensures)
+    unstepped _ _ (s .pre .0) _ _ (s .pre .1 .1) _ _ _ _ (c .refuse2 .ensures)
     (message-unread _ _ _ (c .before .before .before .before .before .if1 .left) _ (c .before .before .before .before .read .ensures) _ (c .before .before .refusal .given .1))
 
 returns-5 : tie.Need-returns-5
@@ -61,7 +64,7 @@ on-message-spec =
     returns-2
     (λ c κs. search needs)
     returns-3
-    (λ c κs. search needs)
+    on-type-requires
     returns-4
     (λ c. search needs)
     returns-5)

@@ -14,13 +14,13 @@ returns c = let s = c .before .before .before .before .before .before .before .b
 
 returns-2 : tie.Need-returns-2
 returns-2 c = let s = c .before .before .before .before .before .before .before .before in
-    event-steps _ _ _ _ (s .pre .0) (s .pre .1 .0) _ _ _
+    event-steps _ _ _ _ (s .pre .0) (s .pre .1 .1 .0) _ _ _
     (kind-event _ _ _ (c .before .before .before .before .if1 .left) (sym (c .before .before .before .is-add-event .ensures) ∙ c .before .before .if2 .taken)) (c .event .ensures)
 
 returns-3 : tie.Need-returns-3
 returns-3 c = let s = c .before .before .before .before .before .before .before .before .before .before .before .before in
     command-steps _ (s .args .head) _ _ _ _ _ _ _
-    (kind-command _ _ _ (c .before .before .before .before .before .before .before .before .if1 .left) (sym (c .before .before .before .before .before .before .before .is-add-event .ensures) ∙ c .before .before .before .before .before .before .if2 .left)) refl (s .pre .1 .0) (c .before .before .on-command .ensures)
+    (kind-command _ _ _ (c .before .before .before .before .before .before .before .before .if1 .left) (sym (c .before .before .before .before .before .before .before .is-add-event .ensures) ∙ c .before .before .before .before .before .before .if2 .left)) refl (s .pre .1 .1 .0) (c .before .before .on-command .ensures)
 
 pub on-type-spec : {M : Type 1} → statement M
 on-type-spec =

@@ -1,4 +1,4 @@
--- `ruling::rule_for` meets its contract: the rules a to f in their order. Assumes nothing.
+-- `ruling::rule_for` meets its contract: the rules a to e in their order. Assumes nothing.
 use Prim.Native.Nat.{ℕ}
 use mathlib.Core.Path.{_≡_, sym, ap, _∙_}
 use mathlib.Core.Bool.{Bool, true, false}
@@ -6,11 +6,10 @@ use borrow.Author.Tests.{not-true, not-false}
 use Rattle.tapa.specs.Address.{categoryOf, handlerOf}
 use Rattle.types.specs.Types.{known}
 use Rattle.table.specs.Table.{listed}
-use Rattle.places.proofs.Points.{len}
 use Rattle.rules.specs.View.{View}
 use Rattle.rules.specs.Judge.{closedTo, mayAsk, busy}
 use Rattle.ruling.specs.Ruling.{heldView}
-use Rattle.rules.proofs.Steps.{turned-a, turned-b, turned-c, turned-d, turned-e, turned-f, passes}
+use Rattle.rules.proofs.Steps.{turned-a, turned-b, turned-c, turned-d, turned-e, passes}
 use borrow.Author.Needs.{needs}
 use Rattle.ruling.proofs.rule_for.Statement.{statement}
 use Rattle.ruling.proofs.rule_for.Tie as tie
@@ -107,21 +106,10 @@ returns-5 c =
 
 returns-6 : tie.Need-returns-6
 returns-6 c =
-    let e = c .before .before in
+    let e = c .before in
     let d = e .before .before in
     let k = d .before .before in
-    let a = at-e e .args in
-    sym (turned-f _ (a .head) (past-a (k .before .before)) (past-b k) (past-c d) (past-d e) (is-e false e (c .before .if5 .left))
-    (rw (len (a .list .now) (a .len)) (c .if6 .taken)))
-
-returns-7 : tie.Need-returns-7
-returns-7 c =
-    let e = c .before .before in
-    let d = e .before .before in
-    let k = d .before .before in
-    let a = at-e e .args in
-    sym (passes _ (a .head) (past-a (k .before .before)) (past-b k) (past-c d) (past-d e) (is-e false e (c .before .if5 .left))
-    (rw (len (a .list .now) (a .len)) (c .if6 .left)))
+    sym (passes _ (at-e e .args .head) (past-a (k .before .before)) (past-b k) (past-c d) (past-d e) (is-e false e (c .if5 .left)))
 
 pub rule-for-spec : {M : Type 1} → statement M
 rule-for-spec =
@@ -139,5 +127,4 @@ rule-for-spec =
     returns-4
     (λ c κs. search needs)
     returns-5
-    returns-6
-    returns-7)
+    returns-6)
