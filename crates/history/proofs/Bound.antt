@@ -13,7 +13,8 @@ use Rattle.places.proofs.Two.{two}
 use Rattle.rules.specs.Words.{singles, multis, mostOf}
 use Rattle.rules.specs.Judge.{judge}
 use Rattle.rules.proofs.Kept.{rows-by}
-use Rattle.rules.proofs.Bound.{bound, bound-all, sized, f-goes}
+use Rattle.rules.proofs.Bound.{bound, bound-all, sized}
+use Rattle.rules.proofs.Old.{f-goes}
 use Rattle.history.specs.History.{Step, viewAfter, history, openIn, owedIn}
 use Rattle.history.specs.Promise.{Bounded}
 use Rattle.history.proofs.Law.{conduct-after, proper-after}

@@ -5,13 +5,13 @@ use Rattle.table.specs.declared.Row.{Row}
 use Rattle.table.specs.Table.{Proper}
 use Rattle.rules.specs.Judge.{judge}
 use Rattle.rules.specs.Old.{oldJudge}
-use Rattle.rules.proofs.Bound.{f-goes-call, never-f}
+use Rattle.rules.proofs.Old.{f-goes-call, never-f}
 use Rattle.history.specs.History.{Step, viewAfter, history, Each}
 use Rattle.history.specs.Old.{oldAfter, oldHistory, NotFull}
 use Rattle.history.proofs.Law.{conduct-after, proper-after}
 
 module _ (rows : List Row) (p : Proper rows) where
-  -- the next call's outcome is the same, since no more than 44 places are in use (proofs/Bound.antt)
+  -- the next call's outcome is the same, since no more than 44 places are in use
   same-outcome : (steps : List Step) (s : Step)
       → oldJudge (viewAfter rows steps) (s .room) (s .call) ≡ judge (viewAfter rows steps) (s .room) (s .call)
   same-outcome steps s = f-goes-call (viewAfter rows steps) (proper-after rows steps p) (conduct-after rows steps) (s .room) (s .call)

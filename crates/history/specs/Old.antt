@@ -19,6 +19,6 @@ abbrev pub oldHistory : List Row → List Step → List Entry
 oldHistory rows [] = []
 oldHistory rows (s ∷ steps) = entry s (oldJudge (oldAfter rows steps) (s .room) (s .call)) ∷ oldHistory rows steps
 
--- no command is turned back with 'FFF6'
+-- this entry turns no command back with 'FFF6'
 abbrev pub NotFull : Entry → Type 0
 NotFull e = (asker asked t : ℕ) → e .outcome ≡ Turned asker asked t insufficientResources → ⊥

@@ -62,4 +62,4 @@ pub record Bounded (rows : List Row) (h : List Entry) (v : View) : Type 0 where
   pub table : Proper (v .rows)
   pub bound : length (openIn h) + length (owedIn h) ≤ singles rows + 8 * multis rows
   pub few : length (v .places) ≤ most
-  pub without-f : (h : Head) → oldCommand v h ≡ judgeCommand v h
+  pub without-f : (command : Head) → oldCommand v command ≡ judgeCommand v command

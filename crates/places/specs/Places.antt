@@ -23,7 +23,7 @@ placeAt l i = unpack (getD l i 0)
 abbrev pub placesOf : List ℕ → ℕ → List Place
 placesOf l n = held unpack l n
 
--- the law: 'waits plus owings' are at most 48, and each cell is the number of its place, or 0 where it is free
+-- the law: at most 48 places, and each cell is the number of its place, or 0 where it is free
 abbrev pub Lawful : List ℕ → ℕ → Type 0
 Lawful l n = Holding 48 pack unpack l n
 

@@ -169,8 +169,8 @@ pub fn taken(list: &[u64; 48], n: usize, handler: u16, thread: u8) -> bool
 
 // ---- changes, each with the next count
 
-// One place more, the newest. It is asked only where there is room, so that no place is dropped: the
-// law of a router's state gives it, with at most 44 places (rules, Bound).
+// One place more, the newest. It is asked only where there is room, so no place is dropped. The law of
+// a router's state gives the room: at most 44 places are in use (rules, Bound).
 pub fn push(list: &mut [u64; 48], n: usize, place: Place) -> usize
     requires { ⌜ Lawful (now list) n ⌝ }
     requires { ⌜ n < 48 ⌝ }

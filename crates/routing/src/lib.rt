@@ -167,7 +167,7 @@ fn wait_of(head: Head) -> Place
 }
 
 // Does what the rules say: a response into the reply buffer, or one place more. No rule tests for
-// room, so that it is required here.
+// room, so it is required here.
 fn on_command(
     cells: &[u32; 16],
     count: usize,

@@ -1,33 +1,24 @@
--- How many places there can be: one a single handler and eight a multi handler, so 44 at the most. So there is always room for one more, and rule f,
--- which stood here for a full list, was never met.
+-- How many places there can be: one a single handler and eight a multi handler, so 44 at the most, and there is always room for one more.
 use Prim.Native.Nat.{ℕ, zero, suc, _+_, _*_, _≤_, _<_}
 use mathlib.Core.Path.{_≡_, refl, sym, ap}
-use mathlib.Core.Logic.{inl, inr}
 use mathlib.Core.Bool.{Bool, true, false, cond, or-true}
 use mathlib.Core.List.{List, [], _∷_, _++_}
 use native.Mathlib.Nat.{not-suc-le-zero}
 use native.Mathlib.Omega.{arith}
 use lib.Dec.{eqb}
 use lib.ListN.{length, length-append}
-use borrow.Author.Tests.{eqb-true, eqb-false, eq-eqb, lt-leb}
-use Rattle.lists.specs.Lists.{count, All, In}
-use Rattle.lists.proofs.Tests.{split, clash, checks-skip, checks-said}
+use borrow.Author.Tests.{eqb-true, eqb-false, eq-eqb}
+use Rattle.lists.specs.Lists.{count, All}
+use Rattle.lists.proofs.Tests.{split, clash}
 use Rattle.lists.proofs.Counts.{count-append}
 use Rattle.tapa.specs.Address.{handlerOf, multi}
-use Rattle.tapa.specs.Codes.{insufficientResources}
-use Rattle.message.specs.declared.Head.{Head}
 use Rattle.table.specs.declared.Row.{Row}
 use Rattle.table.specs.Table.{listed, isMulti, Proper}
 use Rattle.place.specs.declared.Place.{Place}
 use Rattle.places.specs.Places.{onThread, asks, onSlot}
 use Rattle.rules.specs.View.{View}
-use Rattle.rules.specs.declared.Outcome.{Outcome}
-use Rattle.rules.specs.declared.Outcome.the-variants.{Passed, Answered, Swallowed, Event, Turned, Given, Reset, Refused}
-use Rattle.rules.specs.Judge.{rules, judgeCommand, Call, judge}
-use Rattle.rules.specs.Old.{ruleF, oldCommand, withF, oldJudge}
 use Rattle.rules.specs.Conduct.{Placed, Conduct}
-use Rattle.rules.specs.Words.{turnCodes, singles, multis, mostOf, Sized, most}
-use Rattle.rules.proofs.Allowed.{Allowed, allowed}
+use Rattle.rules.specs.Words.{singles, multis, mostOf, Sized, most}
 
 -- how many commands a handler can have under way
 abbrev width : ℕ → ℕ
@@ -119,51 +110,3 @@ sized rows p = record { handlers = p .few; several = p .multis }
 -- 'and the list has 48 places': there is room for one more. The code rests on this where it passes a command
 pub room-left : (v : View) → Proper (v .rows) → Conduct v → length (v .places) < 48
 room-left v p c = omega (arith, bound-all v (sized (v .rows) p) c)
-
--- ---- rule f, which is gone
-
-module _ (v : View) (p : Proper (v .rows)) (c : Conduct v) where
-  -- 'waits plus owings are already 48' is never so
-  pub f-never : (asker asked t : ℕ) → ruleF v asker asked t .0 ≡ false
-  f-never asker asked t = lt-leb _ (length (v .places)) (omega (arith, bound-all v (sized (v .rows) p) c))
-
-  -- and so the rules a to e decide what a to f decided, of every command
-  pub f-goes : (h : Head) → oldCommand v h ≡ judgeCommand v h
-  unfolding judgeCommand
-  f-goes h =
-      let f = ruleF v (h .source) (h .destination) (h .thread) in
-      checks-skip (rules v h) [] (f .0) (f .1) (Passed (h .source) (h .destination) (h .kind) (h .thread)) (f-never (h .source) (h .destination) (h .thread))
-
-  -- and of every call
-  pub f-goes-call : (room : ℕ) (k : Call) → oldJudge v room k ≡ judge v room k
-  f-goes-call room k = go (judge v room k)
-    where
-      go : (o : Outcome) → withF v o ≡ o
-      go (Passed asker asked kind t) = rw (f-never asker asked t)
-      go (Answered asked asker t j) = refl
-      go (Swallowed asked t) = refl
-      go Event = refl
-      go (Turned asker asked t j) = refl
-      go (Given asker asked t) = refl
-      go (Reset h) = refl
-      go (Refused r) = refl
-
--- f was asked last: in any view, the old list made of a command what `withF` makes of what a to e decide
-pub f-last : (v : View) (h : Head) → oldCommand v h ≡ withF v (judgeCommand v h)
-unfolding judgeCommand
-f-last v h = sym (checks-said (withF v) (rules v h) (Passed (h .source) (h .destination) (h .kind) (h .thread)))
-
--- 'FFF6' is none of the five codes
-no-code-of-rules : In insufficientResources turnCodes → ⊥
-no-code-of-rules (inl e) = let z : _≡_ {A = ℕ} 0xFFF1 0xFFF6 = e in omega arith
-no-code-of-rules (inr (inl e)) = let z : _≡_ {A = ℕ} 0xFFFB 0xFFF6 = e in omega arith
-no-code-of-rules (inr (inr (inl e))) = let z : _≡_ {A = ℕ} 0xFFF7 0xFFF6 = e in omega arith
-no-code-of-rules (inr (inr (inr (inl e)))) = let z : _≡_ {A = ℕ} 0xFFF3 0xFFF6 = e in omega arith
-no-code-of-rules (inr (inr (inr (inr (inl e))))) = let z : _≡_ {A = ℕ} 0xFFF5 0xFFF6 = e in omega arith
-no-code-of-rules (inr (inr (inr (inr (inr e))))) = e
-
--- no command is turned back with 'FFF6', whatever the view and the call
-pub never-f : (v : View) (room : ℕ) (k : Call) (asker asked t : ℕ) → judge v room k ≡ Turned asker asked t insufficientResources → ⊥
-never-f v room k asker asked t e =
-    let a : Allowed v (Turned asker asked t insufficientResources) = rw e at (allowed v room k) in
-    no-code-of-rules (a .2)

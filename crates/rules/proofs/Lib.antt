@@ -4,6 +4,7 @@ pub mod Says
 pub mod Trees
 pub mod Kept
 pub mod Bound
+pub mod Old
 pub mod Words
 pub mod Leaves
 pub mod Steps

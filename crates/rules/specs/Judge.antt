@@ -70,7 +70,7 @@ closedTo rows h kind = not (openedAt h rows) && not (eqb kind openHandler)
 abbrev pub mayAsk : List Place → ℕ → ℕ → Bool
 mayAsk places t a = cond (someOf (openOn t) places) (someOf (standsOn t (handlerOf a)) places) (eqb (categoryOf a) tillDriver)
 
--- rule e, for the handler h: it is the asker, stands in the thread's tree, or has a command under way that leaves no room for one more.
+-- rule e, for the handler h: it is the asker, stands in the thread's tree, or has a command under way, open or owed, that takes its slot.
 -- proofs/Words.antt shows that this is the page's sentence.
 unfoldable pub busy : List Place → (asker h thread : ℕ) → Bool
 busy places asker h t = eqb h (handlerOf asker) || (someOf (standsOn t h) places || someOf (onSlot h t) places)

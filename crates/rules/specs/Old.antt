@@ -1,4 +1,4 @@
--- The old list of rules, a to f, kept beside the theorem that let rule f go (proofs/Bound.antt, `f-goes`; of whole histories: room history, Old). No
+-- The old list of rules, a to f, kept beside the theorem that let rule f go (proofs/Old.antt, `f-goes`; of whole histories: room history, Old). No
 -- code is held to what stands here.
 use Prim.Native.Nat.{ℕ}
 use mathlib.Core.Bool.{Bool}

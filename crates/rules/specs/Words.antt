@@ -1,5 +1,5 @@
 -- Rules d and e in the words of the rules, and what the conduct tells in plain words. proofs/Words.antt shows that the tests of d and e are these,
--- and that the conduct gives the rest; proofs/Bound.antt has the bound.
+-- and that the conduct gives the rest; proofs/Bound.antt has the bound, and proofs/Steps.antt that no other codes are given than those here.
 use Prim.Native.Nat.{ℕ, _+_, _*_, _≤_}
 use mathlib.Core.Path.{_≡_}
 use mathlib.Core.Bool.{Bool, true, false, not, _&&_, _||_}

@@ -65,7 +65,7 @@ fn may_ask(list: &[u64; 48], len: usize, thread: u8, source: u16) -> bool
     }
 }
 
-// Rule e: whether there is no room for a command from `source` to the handler.
+// Rule e: whether the handler is the asker, stands in the thread's tree, or has its slot taken.
 fn is_busy(list: &[u64; 48], len: usize, source: u16, handler: u16, thread: u8) -> bool
     requires { ⌜ Lawful (now list) len ⌝ }
     ensures { λ r. ⌜ r ≡ busy (placesIn list len) source handler thread ⌝ }

@@ -1,4 +1,4 @@
--- `places::push` meets its contract: the first free cell is taken. Assumes room.
+-- `places::push` meets its contract: the first free cell is taken. Assumes nothing.
 use Rattle.lists.proofs.Arrays.{push-room}
 use Rattle.places.specs.Places.{pack, unpack}
 use borrow.Author.Needs.{needs}
