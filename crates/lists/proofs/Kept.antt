@@ -1,7 +1,7 @@
 -- A list seen as the part of it that passes a test: what is asked of the part, and what a change of the list does to it.
 use Prim.Native.Nat.{_+_}
 use mathlib.Core.Path.{_≡_, refl, _∙_}
-use mathlib.Core.Bool.{Bool, true, false, not, _||_, or-true}
+use mathlib.Core.Bool.{Bool, true, false, not, _||_, _&&_, or-true}
 use mathlib.Core.List.{List, [], _∷_}
 use mathlib.Core.Option.{some}
 use native.Mathlib.Omega.{arith}
@@ -56,12 +56,24 @@ module _ {A : Type 0} where
         split (q x) (λ e. rw (e, within x e, e, out x))
         (λ e. split (r x) (λ p. rw (e, p, e, changed-out f out l)) (λ p. rw (e, p, changed-out f out l)))
 
+    -- a change that leaves it in the part
+    pub changed-within : (f : A → A) → ((x : A) → r (f x) ≡ r x) → (l : List A) → keep r (changed f q l) ≡ changed f q (keep r l)
+    changed-within f stays [] = refl
+    changed-within f stays (x ∷ l) =
+        split (q x) (λ e. rw (e, within x e, e, stays x, within x e))
+        (λ e. split (r x) (λ p. rw (e, p, e, changed-within f stays l)) (λ p. rw (e, p, changed-within f stays l)))
+
   -- ---- a test that no element of the part passes
 
   module _ (q r : A → Bool) (apart : (x : A) → q x ≡ true → r x ≡ false) where
     pub without-apart : (l : List A) → keep r (without q l) ≡ keep r l
     without-apart [] = refl
     without-apart (x ∷ l) = split (q x) (λ e. rw (e, apart x e)) (λ e. rw (e, without-apart l))
+
+    -- a change that leaves it outside
+    pub changed-apart : (f : A → A) → ((x : A) → r (f x) ≡ r x) → (l : List A) → keep r (changed f q l) ≡ keep r l
+    changed-apart f stays [] = refl
+    changed-apart f stays (x ∷ l) = split (q x) (λ e. rw (e, stays x, apart x e)) (λ e. rw (e, changed-apart f stays l))
 
     -- a change that moves the first that passes into the part: one more there, in the place of the old one
     pub changed-in : (f : A → A)
@@ -82,6 +94,10 @@ module _ {A : Type 0} where
   keep-wider r s h (x ∷ l) =
       split (r x) (λ e. rw (e, h x e, e, keep-wider r s h l))
       (λ e. split (s x) (λ p. rw (e, p, e, keep-wider r s h l)) (λ p. rw (e, p, keep-wider r s h l)))
+
+  pub keep-both : (r s : A → Bool) (l : List A) → keep r (keep s l) ≡ keep (λ x. s x && r x) l
+  keep-both r s [] = refl
+  keep-both r s (x ∷ l) = split (s x) (λ p. rw (p, keep-both r s l)) (λ p. rw (p, keep-both r s l))
 
   pub keep-agrees : (r s t : A → Bool)
       → ((x : A) → r x ≡ true → s x ≡ t x)

@@ -4,6 +4,7 @@ pub mod First
 pub mod Numbers
 pub mod Members
 pub mod Kept
+pub mod Keyed
 pub mod Cells
 pub mod Arrays
 pub mod Bytes

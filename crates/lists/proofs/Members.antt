@@ -1,15 +1,29 @@
 -- Laws of members, and of elements that are changed or left out one by one.
-use Prim.Native.Nat.{_+_, _≤_}
+use Prim.Native.Nat.{ℕ, _+_, _≤_}
 use mathlib.Core.Path.{_≡_, refl, sym, _∙_}
 use mathlib.Core.Logic.{_⊎_, inl, inr}
-use mathlib.Core.Bool.{Bool, true, not, cond}
+use mathlib.Core.Bool.{Bool, true, false, not, cond}
 use mathlib.Core.List.{List, [], _∷_, _++_}
 use mathlib.Core.Option.{Option, none, some}
 use native.Mathlib.Omega.{arith}
+use lib.Dec.{eqb}
 use lib.ListN.{length}
-use Rattle.lists.specs.Lists.{count, keep, first, changed, All, In}
-use Rattle.lists.proofs.Tests.{split}
+use borrow.Author.Tests.{eqb-true, eqb-false}
+use Rattle.lists.specs.Lists.{count, someOf, keep, first, changed, All, In}
+use Rattle.lists.proofs.Tests.{split, clash}
 use Rattle.lists.proofs.Counts.{count-zero}
+
+-- a number that is met in a list stands in it
+pub some-in : (l : List ℕ) (n : ℕ) → someOf (λ x. eqb x n) l ≡ true → In n l
+some-in [] n e = clash false e refl
+some-in (x ∷ l) n e = split (eqb x n) (λ p. inl (eqb-true x n p)) (λ p. inr (some-in l n (rw p at e)))
+
+-- a number stands in a list or not
+pub in-or-not : (n : ℕ) (l : List ℕ) → In n l ⊎ (In n l → ⊥)
+in-or-not n [] = inr (λ i. i)
+in-or-not n (x ∷ l) =
+    split (eqb x n) (λ p. inl (inl (eqb-true x n p)))
+    (λ p. elim (in-or-not n l) [ inl i ↦ inl (inr i) | inr f ↦ inr (elim [ inl e ↦ eqb-false x n p e | inr i ↦ f i ]) ])
 
 module _ {A : Type 0} where
   -- ---- members

@@ -1,5 +1,6 @@
 pub mod Waits
 pub mod Allowed
+pub mod Apart
 pub mod Says
 pub mod Trees
 pub mod Kept

@@ -1,0 +1,89 @@
+-- Two calls of the code, in either order; and all calls of two desks.
+use Prim.Native.Nat.{ℕ}
+use mathlib.Core.Path.{_≡_, refl, sym, ap, _∙_}
+use mathlib.Core.List.{List, map}
+use Rattle.rules.specs.View.{View}
+use Rattle.rules.specs.Apply.{applied}
+use Rattle.router.specs.declared.Router.{Router}
+use Rattle.router.specs.declared.Routed.{Routed}
+use Rattle.router.specs.Router.{viewOf, Routing}
+use Rattle.tills.specs.Tills.{Step, message, giveUp, bufferOf, outcomeOf, after, Shown, shown, Apart}
+use Rattle.tills.specs.Desks.{Desk, Separate, AllIts, seen, Turn, ones, twos, seenAtOne, seenAtTwo}
+use Rattle.tills.specs.Calls.{Called, InTurn, EitherOrder, Got, got, Alone, quiet, calls, Together, both-quiet, one-calls, two-calls}
+use Rattle.tills.proofs.Tills.{undisturbed}
+use Rattle.tills.proofs.Desks.{as-alone}
+
+-- the contract of a call tells its outcome, the next view and the reply buffer
+told : (r : Router) (c : Step) (buffer : List ℕ) (out : Routed) → Called r c buffer out → Routing (outcomeOf (viewOf r) c) r (bufferOf c) buffer out
+told r (message s before) buffer out x = x
+told r (giveUp t a before) buffer out x = x
+
+module _ (r : Router) (c d : Step) (x : InTurn r c d) where
+  first-told : Routing (outcomeOf (viewOf r) c) r (bufferOf c) (x .first-buffer) (x .first)
+  first-told = told r c (x .first-buffer) (x .first) (x .first-called)
+
+  between : viewOf (x .first .next) ≡ after (viewOf r) c
+  between = first-told .view
+
+  second-told : Routing (outcomeOf (after (viewOf r) c) d) (x .first .next) (bufferOf d) (x .second-buffer) (x .second)
+  second-told = rw between at (told (x .first .next) d (x .second-buffer) (x .second) (x .second-called))
+
+  at-end : viewOf (x .second .next) ≡ after (after (viewOf r) c) d
+  at-end = second-told .view ∙ ap (applied (outcomeOf (after (viewOf r) c) d)) between
+
+pub either-order : (r : Router) (c d : Step) → Apart (viewOf r) c d → (x : InTurn r c d) (y : InTurn r d c) → EitherOrder r c d x y
+either-order r c d a x y =
+    let u = undisturbed (viewOf r) c d a in
+    let f : outcomeOf (viewOf r) c ≡ outcomeOf (after (viewOf r) d) c = ap (λ (s : Shown). s .outcome) (u .first) in
+    let g : outcomeOf (after (viewOf r) c) d ≡ outcomeOf (viewOf r) d = ap (λ (s : Shown). s .outcome) (u .second) in
+    record {
+      first-outcome = first-told r c d x .outcome ∙ f ∙ sym (second-told r d c y .outcome);
+      first-buffer = first-told r c d x .reply ∙ ap (λ (s : Shown). s .buffer) (u .first) ∙ sym (second-told r d c y .reply);
+      second-outcome = second-told r c d x .outcome ∙ g ∙ sym (first-told r d c y .outcome);
+      second-buffer = second-told r c d x .reply ∙ ap (λ (s : Shown). s .buffer) (u .second) ∙ sym (first-told r d c y .reply);
+      left = rw (at-end r c d x, at-end r d c y) (u .left);
+    }
+
+-- ---- whole lists of calls
+
+-- what a step shows, as the code hands it back
+abbrev handed : Shown → Got
+handed s = record { outcome = s .outcome; buffer = s .buffer }
+
+module _ (r : Router) (v : View) (e : viewOf r ≡ v) (c : Step) (buffer : List ℕ) (out : Routed) (x : Called r c buffer out) where
+  call-told : Routing (outcomeOf v c) r (bufferOf c) buffer out
+  call-told = rw e at (told r c buffer out x)
+
+  call-view : viewOf (out .next) ≡ after v c
+  call-view = call-told .view ∙ ap (applied (outcomeOf v c)) e
+
+  call-got : got out buffer ≡ handed (shown v c)
+  call-got = rw (call-told .outcome, call-told .reply)
+
+alone-told : {r : Router} {cs : List Step} {gs : List Got} → Alone r cs gs → (v : View) → viewOf r ≡ v → gs ≡ map handed (seen v cs)
+alone-told (quiet r) v e = refl
+alone-told (calls r c cs gs buffer out x a) v e =
+    rw (call-got r v e c buffer out x, alone-told a (after v c) (call-view r v e c buffer out x))
+
+one-told : {r : Router} {es : List Turn} {gs hs : List Got} → Together r es gs hs → (v : View) → viewOf r ≡ v → gs ≡ map handed (seenAtOne v es)
+one-told (both-quiet r) v e = refl
+one-told (one-calls r c es gs hs buffer out x a) v e =
+    rw (call-got r v e c buffer out x, one-told a (after v c) (call-view r v e c buffer out x))
+one-told (two-calls r d es gs hs buffer out x a) v e = one-told a (after v d) (call-view r v e d buffer out x)
+
+two-told : {r : Router} {es : List Turn} {gs hs : List Got} → Together r es gs hs → (v : View) → viewOf r ≡ v → hs ≡ map handed (seenAtTwo v es)
+two-told (both-quiet r) v e = refl
+two-told (one-calls r c es gs hs buffer out x a) v e = two-told a (after v c) (call-view r v e c buffer out x)
+two-told (two-calls r d es gs hs buffer out x a) v e =
+    rw (call-got r v e d buffer out x, two-told a (after v d) (call-view r v e d buffer out x))
+
+module _ (one two : Desk) (s : Separate one two) (r : Router) (es : List Turn) (i : AllIts one (viewOf r) (ones es)) (j : AllIts two (viewOf r) (twos es))
+    (gs hs : List Got) (x : Together r es gs hs) where
+  -- each desk gets from the router what it would get alone
+  pub one-gets : (alone : List Got) → Alone r (ones es) alone → gs ≡ alone
+  one-gets alone a =
+      one-told x (viewOf r) refl ∙ ap (map handed) (as-alone one two s (viewOf r) es i j .one-sees) ∙ sym (alone-told a (viewOf r) refl)
+
+  pub two-gets : (alone : List Got) → Alone r (twos es) alone → hs ≡ alone
+  two-gets alone a =
+      two-told x (viewOf r) refl ∙ ap (map handed) (as-alone one two s (viewOf r) es i j .two-sees) ∙ sym (alone-told a (viewOf r) refl)

@@ -1,0 +1,133 @@
+-- Two desks at one router: each sees what it would see alone. Beside the router that both use, its own view follows, in which it is alone; on its
+-- threads, and of its handlers that serve one at a time, the two are alike.
+use Prim.Native.Nat.{ℕ}
+use mathlib.Core.Path.{_≡_, refl, sym, ap, _∙_}
+use mathlib.Core.Bool.{true, false}
+use mathlib.Core.List.{List, [], _∷_}
+use mathlib.Core.Option.{some}
+use Rattle.lists.specs.Lists.{In}
+use Rattle.lists.proofs.Tests.{split, clash}
+use Rattle.tapa.specs.Address.{multi}
+use Rattle.rules.specs.View.{View}
+use Rattle.rules.specs.declared.Outcome.{Outcome}
+use Rattle.rules.specs.Apply.{rowsAfter, placesAfter}
+use Rattle.rules.proofs.Apart.{part, ofThread, ofHandler, part-same, multi-same, slot-same, rows-same}
+use Rattle.tills.specs.Tills.{Step, message, giveUp, outcomeOf, after, threadOf, givenNames, namesOf}
+use Rattle.tills.specs.Less.{asksOf}
+use Rattle.tills.specs.Desks.{Desk, Separate, Its, AllIts, seen, afterAll, Turn, at-one, at-two, afterTurns, ones, twos, seenAtOne, seenAtTwo, SameOn, AsAlone}
+use Rattle.tills.proofs.Reach.{thread-its, asks-named, steady-rows, thread-left, handler-left}
+use Rattle.tills.proofs.Sees.{BusySame, outcome-same}
+use Rattle.tills.proofs.Less.{several, tree-same, owings-same}
+
+-- what a desk can tell of two views
+record Alike (desk : Desk) (v w : View) : Type 0 where
+  rows : v .rows ≡ w .rows
+  threads : (t : ℕ) → desk .threads t ≡ true → part (ofThread t) (v .places) ≡ part (ofThread t) (w .places)
+  handlers : (h : ℕ) → desk .handlers h ≡ true → multi h ≡ false → part (ofHandler h) (v .places) ≡ part (ofHandler h) (w .places)
+
+-- ---- a step of the desk, in both views
+
+module _ (desk : Desk) (v w : View) (a : Alike desk v w) (c : Step) (i : Its desk w c) where
+  its-thread : (t : ℕ) → threadOf c ≡ some t → part (ofThread t) (v .places) ≡ part (ofThread t) (w .places)
+  its-thread t e = a .threads t (i .thread t e)
+
+  as-busy : BusySame v w (a .rows) (threadOf c) (asksOf c)
+  as-busy t e h j =
+      split (multi h) (λ m. multi-same t (v .places) (w .places) (its-thread t e) h m)
+      (λ m. slot-same h t (v .places) (w .places) (a .handlers h (i .names h (asks-named w c h j)) m))
+
+  own-same : outcomeOf v c ≡ outcomeOf w c
+  own-same = outcome-same v w (a .rows) c its-thread as-busy
+
+  own-after : Alike desk (after v c) (after w c)
+  own-after = record {
+    rows =
+        ap (λ (o : Outcome). rowsAfter o v) own-same
+        ∙ rows-same v w (a .rows) (outcomeOf w c) (λ t e. its-thread t (thread-its w c t e));
+    threads =
+        λ t k. ap (λ (o : Outcome). part (ofThread t) (placesAfter o (v .places))) own-same
+        ∙ part-same (ofThread t) (v .places) (w .places) (a .threads t k) (outcomeOf w c);
+    handlers =
+        λ h k m. ap (λ (o : Outcome). part (ofHandler h) (placesAfter o (v .places))) own-same
+        ∙ part-same (ofHandler h) (v .places) (w .places) (a .handlers h k m) (outcomeOf w c);
+  }
+
+-- ---- a step of the other desk
+
+-- a step names the same handlers where it has the same outcome
+names-same : (v w : View) (c : Step) → outcomeOf v c ≡ outcomeOf w c → namesOf v c ≡ namesOf w c
+names-same v w (message s buffer) e = refl
+names-same v w (giveUp t a buffer) e = ap givenNames e
+
+module _ (desk other : Desk) (apart : Separate desk other) (v w u : View) (a : Alike desk v w) (b : Alike other v u) (d : Step) (i : Its other u d) where
+  other-rows : after v d .rows ≡ v .rows
+  other-rows = own-after other v u b d i .rows ∙ steady-rows u d (i .steady) ∙ sym (b .rows)
+
+  not-named : (h : ℕ) → desk .handlers h ≡ true → multi h ≡ false → In h (namesOf v d) → ⊥
+  not-named h k m j =
+      let theirs : In h (namesOf u d) = rw (names-same v u d (own-same other v u b d i)) at j in
+      clash (multi h) (several h (apart .handlers h k (i .names h theirs))) m
+
+  other-after : Alike desk (after v d) w
+  other-after = record {
+    rows = other-rows ∙ a .rows;
+    threads = λ t k. thread-left v d t (λ e. apart .threads t k (i .thread t e)) ∙ a .threads t k;
+    handlers = λ h k m. handler-left v d h (not-named h k m) ∙ a .handlers h k m;
+  }
+
+-- ---- all steps
+
+alike-here : (desk : Desk) (v : View) → Alike desk v v
+alike-here desk v = record { rows = refl; threads = λ t k. refl; handlers = λ h k m. refl }
+
+alone-rows : (desk : Desk) (v : View) (cs : List Step) → AllIts desk v cs → afterAll v cs .rows ≡ v .rows
+alone-rows desk v [] i = refl
+alone-rows desk v (c ∷ cs) i = alone-rows desk (after v c) cs (i .1) ∙ steady-rows v c (i .0 .steady)
+
+same-on : (desk : Desk) (v w : View) → Alike desk v w → SameOn desk v w
+same-on desk v w a = record {
+  trees = λ t k. tree-same t (v .places) (w .places) (a .threads t k);
+  owings = λ t k. owings-same t (v .places) (w .places) (a .threads t k);
+}
+
+module _ (one two : Desk) (s : Separate one two) where
+  round : Separate two one
+  round = record { threads = λ t p q. s .threads t q p; handlers = λ h p q. s .handlers h q p }
+
+  -- v is what both have made of the router, u and w what each would have made of it alone
+  record Goes (v u w : View) (es : List Turn) : Type 0 where
+    one-sees : seenAtOne v es ≡ seen u (ones es)
+    two-sees : seenAtTwo v es ≡ seen w (twos es)
+    one-ends : Alike one (afterTurns v es) (afterAll u (ones es))
+    two-ends : Alike two (afterTurns v es) (afterAll w (twos es))
+
+  goes : (v u w : View) → Alike one v u → Alike two v w → (es : List Turn) → AllIts one u (ones es) → AllIts two w (twos es) → Goes v u w es
+  goes v u w a b [] i j = record { one-sees = refl; two-sees = refl; one-ends = a; two-ends = b }
+  goes v u w a b (at-one c ∷ es) i j =
+      let g = goes (after v c) (after u c) w (own-after one v u a c (i .0)) (other-after two one round v w u b a c (i .0)) es (i .1) j in
+      record {
+        one-sees = rw (g .one-sees, own-same one v u a c (i .0));
+        two-sees = g .two-sees;
+        one-ends = g .one-ends;
+        two-ends = g .two-ends;
+      }
+  goes v u w a b (at-two d ∷ es) i j =
+      let g = goes (after v d) u (after w d) (other-after one two s v u w a b d (j .0)) (own-after two v w b d (j .0)) es i (j .1) in
+      record {
+        one-sees = g .one-sees;
+        two-sees = rw (g .two-sees, own-same two v w b d (j .0));
+        one-ends = g .one-ends;
+        two-ends = g .two-ends;
+      }
+
+  -- however the two desks' steps come in, 'each desk sees the outcomes that it would see alone'
+  pub as-alone : (v : View) (es : List Turn) → AllIts one v (ones es) → AllIts two v (twos es) → AsAlone one two v es
+  as-alone v es i j =
+      let g = goes v v v (alike-here one v) (alike-here two v) es i j in
+      record {
+        one-sees = g .one-sees;
+        two-sees = g .two-sees;
+        one-leaves = same-on one (afterTurns v es) (afterAll v (ones es)) (g .one-ends);
+        two-leaves = same-on two (afterTurns v es) (afterAll v (twos es)) (g .two-ends);
+        marks = g .one-ends .rows ∙ alone-rows one v (ones es) i;
+      }

@@ -1,0 +1,105 @@
+-- Two steps that leave alone what the other looks at: either order is the same.
+use Prim.Native.Nat.{ℕ, _≤_}
+use mathlib.Core.Path.{_≡_, sym, ap, _∙_}
+use mathlib.Core.Logic.{_⊎_, inl, inr, ⊎-elim}
+use mathlib.Core.Bool.{Bool, true}
+use mathlib.Core.List.{List}
+use mathlib.Core.Option.{Option, none, some}
+use lib.Dec.{eqb}
+use borrow.Author.Tests.{le-leb, eqb-true, eqb-false}
+use Rattle.lists.specs.Lists.{keep, In}
+use Rattle.lists.proofs.Tests.{split, and-yes, differ}
+use Rattle.lists.proofs.Kept.{keep-wider}
+use Rattle.lists.proofs.Members.{in-or-not}
+use Rattle.tapa.specs.Address.{categoryOf, multi}
+use Rattle.place.specs.declared.Place.{Place}
+use Rattle.places.specs.Places.{isOpen, isOwed, onThread, openOn, owedOn}
+use Rattle.rules.specs.View.{View}
+use Rattle.rules.specs.declared.Outcome.{Outcome}
+use Rattle.rules.specs.Apply.{rowsAfter, placesAfter}
+use Rattle.rules.specs.Words.{treeOf}
+use Rattle.rules.proofs.Apart.{part, ofThread, part-same, multi-same, rows-same}
+use Rattle.tills.specs.Tills.{Step, outcomeOf, after, shows, threadOf, Elsewhere, owingsOn, Undisturbed}
+use Rattle.tills.specs.Less.{asksOf, movesOf, Leaves, Enough}
+use Rattle.tills.proofs.Reach.{thread-its, thread-left, busy-left}
+use Rattle.tills.proofs.Sees.{BusySame, outcome-same}
+
+-- 'in category 00 or 01': one command a thread
+pub several : (h : ℕ) → categoryOf h ≤ 1 → multi h ≡ true
+unfolding categoryOf multi
+several h e = le-leb _ _ e
+
+-- a thread is that of a step or not
+thread-or-not : (o : Option ℕ) (t : ℕ) → (o ≡ some t) ⊎ (o ≡ some t → ⊥)
+thread-or-not none t = inr (λ e. differ (cc))
+thread-or-not (some u) t =
+    split (eqb u t) (λ p. inl (ap some (eqb-true u t p))) (λ p. inr (λ e. eqb-false u t p (let z : u ≡ t = cc in z)))
+
+-- ---- a thread's places tell its tree and its owings
+
+module _ (t : ℕ) (l m : List Place) (e : part (ofThread t) l ≡ part (ofThread t) m) where
+  kept-same : (q : Place → Bool) → ((x : Place) → q x ≡ true → onThread t x ≡ true) → keep q l ≡ keep q m
+  kept-same q within = sym (keep-wider q (onThread t) within l) ∙ ap (keep q) e ∙ keep-wider q (onThread t) within m
+
+  pub tree-same : treeOf t l ≡ treeOf t m
+  tree-same = kept-same (openOn t) (λ x p. and-yes (isOpen x) (onThread t x) p .1)
+
+  pub owings-same : owingsOn t l ≡ owingsOn t m
+  owings-same = kept-same (owedOn t) (λ x p. and-yes (isOwed x) (onThread t x) p .1)
+
+-- ---- the second step, after the first and without it
+
+module _ (v : View) (c d : Step) (n : Elsewhere c d) (l : Leaves v c d) where
+  its-thread : (t : ℕ) → threadOf d ≡ some t → part (ofThread t) (after v c .places) ≡ part (ofThread t) (v .places)
+  its-thread t e = thread-left v c t (λ f. n t f e)
+
+  as-busy : BusySame (after v c) v (l .marks) (threadOf d) (asksOf d)
+  as-busy t e h i =
+      ⊎-elim
+      (λ (j : In h (movesOf (outcomeOf v c))). multi-same t (after v c .places) (v .places) (its-thread t e) h (several h (l .slots h j i)))
+      (λ (j : In h (movesOf (outcomeOf v c)) → ⊥). busy-left v c h t j)
+      (in-or-not h (movesOf (outcomeOf v c)))
+
+  pub second-same : outcomeOf (after v c) d ≡ outcomeOf v d
+  second-same = outcome-same (after v c) v (l .marks) d its-thread as-busy
+
+  -- the open marks after both are those after the second alone
+  marks-both : after (after v c) d .rows ≡ after v d .rows
+  marks-both =
+      ap (λ (o : Outcome). rowsAfter o (after v c)) second-same
+      ∙ rows-same (after v c) v (l .marks) (outcomeOf v d) (λ t e. its-thread t (thread-its v d t e))
+
+  -- off the first step's thread, the places after both are those after the second alone
+  places-off : (t : ℕ) → (threadOf c ≡ some t → ⊥) → part (ofThread t) (after (after v c) d .places) ≡ part (ofThread t) (after v d .places)
+  places-off t m =
+      ap (λ (o : Outcome). part (ofThread t) (placesAfter o (after v c .places))) second-same
+      ∙ part-same (ofThread t) (after v c .places) (v .places) (thread-left v c t m) (outcomeOf v d)
+
+-- ---- either order
+
+module _ (v : View) (c d : Step) (e : Enough v c d) where
+  round : Elsewhere d c
+  round t p q = e .threads t q p
+
+  places-same : (t : ℕ) → part (ofThread t) (after (after v c) d .places) ≡ part (ofThread t) (after (after v d) c .places)
+  places-same t =
+      ⊎-elim
+      (λ (p : threadOf d ≡ some t). places-off v c d (e .threads) (e .first) t (λ q. e .threads t q p)
+      ∙ sym (thread-left (after v d) c t (λ q. e .threads t q p)))
+      (λ (p : threadOf d ≡ some t → ⊥). thread-left (after v c) d t p ∙ sym (places-off v d c round (e .second) t p))
+      (thread-or-not (threadOf d) t)
+
+  pub enough : Undisturbed v c d
+  enough = record {
+    first = ap (shows c) (sym (second-same v d c round (e .second)));
+    second = ap (shows d) (second-same v c d (e .threads) (e .first));
+    left = record {
+      trees = λ t. tree-same t (after (after v c) d .places) (after (after v d) c .places) (places-same t);
+      marks =
+          marks-both v c d (e .threads) (e .first)
+          ∙ e .second .marks
+          ∙ sym (e .first .marks)
+          ∙ sym (marks-both v d c round (e .second));
+      owings = λ t. owings-same t (after (after v c) d .places) (after (after v d) c .places) (places-same t);
+    };
+  }

@@ -1,0 +1,9 @@
+pub mod Reach
+pub mod Sees
+pub mod Less
+pub mod Tills
+pub mod AsOften
+pub mod Desks
+pub mod Calls
+pub mod Example
+pub mod Needed

@@ -1,0 +1,5 @@
+pub mod Tills
+pub mod Less
+pub mod Desks
+pub mod Calls
+pub mod Needed
