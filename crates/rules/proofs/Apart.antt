@@ -2,8 +2,8 @@
 -- message or a give up looks at the rows, at the places of its own thread and, where it is a command, at whether the handler that it asks has a
 -- command under way. All of it holds in any view.
 use Prim.Native.Nat.{ℕ}
-use mathlib.Core.Path.{_≡_, refl, sym, ap, _∙_}
-use mathlib.Core.Bool.{Bool, true, false, not, _||_}
+use mathlib.Core.Path.{_≡_, refl, sym, ap, ap₂, _∙_}
+use mathlib.Core.Bool.{Bool, true, false, not, _||_, cond}
 use mathlib.Core.List.{List}
 use mathlib.Core.Option.{Option, none, some}
 use lib.Dec.{eqb}
@@ -12,13 +12,13 @@ use Rattle.lists.specs.Lists.{someOf, keep, first, without, changed}
 use Rattle.lists.proofs.Tests.{split, clash, and-yes, eqb-same}
 use Rattle.lists.proofs.Kept.{some-within, first-within, without-within, without-apart, changed-within, changed-apart, keep-agrees}
 use Rattle.lists.proofs.First.{some-changed}
-use Rattle.tapa.specs.Address.{handlerOf, multi}
+use Rattle.tapa.specs.Address.{categoryOf, handlerOf, tillDriver, multi}
 use Rattle.tapa.specs.Codes.{response}
 use Rattle.message.specs.declared.Head.{Head}
 use Rattle.message.specs.declared.Coded.{Coded}
 use Rattle.message.specs.declared.Coded.the-variants.{Code, Missing}
 use Rattle.place.specs.declared.Place.{Place}
-use Rattle.places.specs.Places.{isOpen, isOwed, onThread, openOn, owedOn, asksExactly, owesExactly, asks, stands, standsOn, holdsOn, holding, onSlot, notOwedBy, owing}
+use Rattle.places.specs.Places.{isOpen, isOwed, onThread, openOn, owedOn, asksExactly, owesExactly, asks, stands, holdsOn, holding, onSlot, notOwedBy, owing}
 use Rattle.rules.specs.View.{View}
 use Rattle.rules.specs.declared.Outcome.{Outcome}
 use Rattle.rules.specs.declared.Outcome.the-variants.{Passed, Answered, Swallowed, Event, Turned, Given, Reset, Refused}
@@ -114,17 +114,17 @@ module _ (t : ℕ) (l m : List Place) (e : part (ofThread t) l ≡ part (ofThrea
   open-thread : (x : Place) → openOn t x ≡ true → onThread t x ≡ true
   open-thread x p = and-yes (isOpen x) (onThread t x) p .1
 
-  stands-same : (h : ℕ) → someOf (standsOn t h) l ≡ someOf (standsOn t h) m
-  stands-same h = some-same (standsOn t h) (λ x p. open-thread x (and-yes (openOn t x) (stands h x) p .0))
-
   -- rule d
   pub may-same : (a : ℕ) → mayAsk l t a ≡ mayAsk m t a
-  may-same a = rw (some-same (openOn t) open-thread, stands-same (handlerOf a))
+  may-same a =
+      ap₂ (λ (x y : Bool). cond x y (eqb (categoryOf a) tillDriver)) (some-same _ open-thread)
+      (some-same _ (λ x p. open-thread x (and-yes (openOn t x) (stands (handlerOf a) x) p .0)))
 
   -- rule e, where the asked handler's slot is the same
   pub busy-same : (a h : ℕ) → someOf (onSlot h t) l ≡ someOf (onSlot h t) m → busy l a h t ≡ busy m a h t
   unfolding busy
-  busy-same a h f = rw (stands-same h, f)
+  busy-same a h f =
+      ap₂ (λ (x y : Bool). eqb h (handlerOf a) || (x || y)) (some-same _ (λ x p. open-thread x (and-yes (openOn t x) (stands h x) p .0))) f
 
   pub holding-same : (a : ℕ) → holding l a t ≡ holding m a t
   holding-same a = some-same (holdsOn t (handlerOf a)) (λ x p. open-thread x (and-yes (openOn t x) (eqb (handlerOf (x .asker)) (handlerOf a)) p .0))
@@ -206,8 +206,8 @@ module _ (v w : View) (rows : v .rows ≡ w .rows) where
           rows,
         )
 
-    pub kind-same : (code : Coded) → (eqb (h .kind) response ≡ false → SlotSame) → judgeKind v h code ≡ judgeKind w h code
+    pub kind-same : (code : Coded) → (eqb (h .kind) response ≡ false → isAddEvent h ≡ false → SlotSame) → judgeKind v h code ≡ judgeKind w h code
     unfolding judgeKind
     kind-same code f =
         split (eqb (h .kind) response) (λ p. rw p (response-same code))
-        (λ p. rw p (split (isAddEvent h) (λ q. rw (q, rows)) (λ q. rw q (command-same (f p)))))
+        (λ p. rw p (split (isAddEvent h) (λ q. rw (q, rows)) (λ q. rw q (command-same (f p q)))))

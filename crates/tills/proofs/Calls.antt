@@ -8,10 +8,10 @@ use Rattle.router.specs.declared.Router.{Router}
 use Rattle.router.specs.declared.Routed.{Routed}
 use Rattle.router.specs.Router.{viewOf, Routing}
 use Rattle.tills.specs.Tills.{Step, message, giveUp, bufferOf, outcomeOf, after, Shown, shown, Apart}
-use Rattle.tills.specs.Desks.{Desk, Separate, AllIts, seen, Turn, ones, twos, seenAtOne, seenAtTwo}
+use Rattle.tills.specs.Desks.{Desk, Separate, KeepsTo, Throughout, seen, Turn, ones, twos, seenAtOne, seenAtTwo}
 use Rattle.tills.specs.Calls.{Called, InTurn, EitherOrder, Got, got, Alone, quiet, calls, Together, both-quiet, one-calls, two-calls}
 use Rattle.tills.proofs.Tills.{undisturbed}
-use Rattle.tills.proofs.Desks.{as-alone}
+use Rattle.tills.proofs.Desks.{kept-alone}
 
 -- the contract of a call tells its outcome, the next view and the reply buffer
 told : (r : Router) (c : Step) (buffer : List ℕ) (out : Routed) → Called r c buffer out → Routing (outcomeOf (viewOf r) c) r (bufferOf c) buffer out
@@ -77,13 +77,13 @@ two-told (one-calls r c es gs hs buffer out x a) v e = two-told a (after v c) (c
 two-told (two-calls r d es gs hs buffer out x a) v e =
     rw (call-got r v e d buffer out x, two-told a (after v d) (call-view r v e d buffer out x))
 
-module _ (one two : Desk) (s : Separate one two) (r : Router) (es : List Turn) (i : AllIts one (viewOf r) (ones es)) (j : AllIts two (viewOf r) (twos es))
+module _ (one two : Desk) (s : Separate one two) (r : Router) (es : List Turn) (i : Throughout (KeepsTo one) (viewOf r) (ones es)) (j : Throughout (KeepsTo two) (viewOf r) (twos es))
     (gs hs : List Got) (x : Together r es gs hs) where
   -- each desk gets from the router what it would get alone
   pub one-gets : (alone : List Got) → Alone r (ones es) alone → gs ≡ alone
   one-gets alone a =
-      one-told x (viewOf r) refl ∙ ap (map handed) (as-alone one two s (viewOf r) es i j .one-sees) ∙ sym (alone-told a (viewOf r) refl)
+      one-told x (viewOf r) refl ∙ ap (map handed) (kept-alone one two s (viewOf r) es i j .one-sees) ∙ sym (alone-told a (viewOf r) refl)
 
   pub two-gets : (alone : List Got) → Alone r (twos es) alone → hs ≡ alone
   two-gets alone a =
-      two-told x (viewOf r) refl ∙ ap (map handed) (as-alone one two s (viewOf r) es i j .two-sees) ∙ sym (alone-told a (viewOf r) refl)
+      two-told x (viewOf r) refl ∙ ap (map handed) (kept-alone one two s (viewOf r) es i j .two-sees) ∙ sym (alone-told a (viewOf r) refl)

@@ -2,20 +2,20 @@
 -- threads, and of its handlers that serve one at a time, the two are alike.
 use Prim.Native.Nat.{ℕ}
 use mathlib.Core.Path.{_≡_, refl, sym, ap, _∙_}
+use mathlib.Core.Logic.{⊎-elim}
 use mathlib.Core.Bool.{true, false}
 use mathlib.Core.List.{List, [], _∷_}
 use mathlib.Core.Option.{some}
-use Rattle.lists.specs.Lists.{In}
 use Rattle.lists.proofs.Tests.{split, clash}
 use Rattle.tapa.specs.Address.{multi}
 use Rattle.rules.specs.View.{View}
 use Rattle.rules.specs.declared.Outcome.{Outcome}
 use Rattle.rules.specs.Apply.{rowsAfter, placesAfter}
-use Rattle.rules.proofs.Apart.{part, ofThread, ofHandler, part-same, multi-same, slot-same, rows-same}
-use Rattle.tills.specs.Tills.{Step, message, giveUp, outcomeOf, after, threadOf, givenNames, namesOf}
+use Rattle.rules.proofs.Apart.{touches, part, ofThread, ofHandler, part-left, part-same, multi-same, slot-same, rows-same}
+use Rattle.tills.specs.Tills.{Step, outcomeOf, after, threadOf}
 use Rattle.tills.specs.Less.{asksOf}
-use Rattle.tills.specs.Desks.{Desk, Separate, Its, AllIts, seen, afterAll, Turn, at-one, at-two, afterTurns, ones, twos, seenAtOne, seenAtTwo, SameOn, AsAlone}
-use Rattle.tills.proofs.Reach.{thread-its, asks-named, steady-rows, thread-left, handler-left}
+use Rattle.tills.specs.Desks.{Desk, Separate, Its, KeepsTo, Throughout, seen, afterAll, Turn, at-one, at-two, afterTurns, ones, twos, seenAtOne, seenAtTwo, SameOn, AsAlone}
+use Rattle.tills.proofs.Reach.{thread-its, handler-its, asks-named, moves-named, gives-named, steady-rows, thread-left}
 use Rattle.tills.proofs.Sees.{BusySame, outcome-same}
 use Rattle.tills.proofs.Less.{several, tree-same, owings-same}
 
@@ -27,14 +27,14 @@ record Alike (desk : Desk) (v w : View) : Type 0 where
 
 -- ---- a step of the desk, in both views
 
-module _ (desk : Desk) (v w : View) (a : Alike desk v w) (c : Step) (i : Its desk w c) where
+module _ (desk : Desk) (v w : View) (a : Alike desk v w) (c : Step) (i : KeepsTo desk w c) where
   its-thread : (t : ℕ) → threadOf c ≡ some t → part (ofThread t) (v .places) ≡ part (ofThread t) (w .places)
   its-thread t e = a .threads t (i .thread t e)
 
   as-busy : BusySame v w (a .rows) (threadOf c) (asksOf c)
   as-busy t e h j =
       split (multi h) (λ m. multi-same t (v .places) (w .places) (its-thread t e) h m)
-      (λ m. slot-same h t (v .places) (w .places) (a .handlers h (i .names h (asks-named w c h j)) m))
+      (λ m. slot-same h t (v .places) (w .places) (a .handlers h (i .asks h j) m))
 
   own-same : outcomeOf v c ≡ outcomeOf w c
   own-same = outcome-same v w (a .rows) c its-thread as-busy
@@ -54,25 +54,24 @@ module _ (desk : Desk) (v w : View) (a : Alike desk v w) (c : Step) (i : Its des
 
 -- ---- a step of the other desk
 
--- a step names the same handlers where it has the same outcome
-names-same : (v w : View) (c : Step) → outcomeOf v c ≡ outcomeOf w c → namesOf v c ≡ namesOf w c
-names-same v w (message s buffer) e = refl
-names-same v w (giveUp t a buffer) e = ap givenNames e
-
-module _ (desk other : Desk) (apart : Separate desk other) (v w u : View) (a : Alike desk v w) (b : Alike other v u) (d : Step) (i : Its other u d) where
+module _ (desk other : Desk) (apart : Separate desk other) (v w u : View) (a : Alike desk v w) (b : Alike other v u) (d : Step) (i : KeepsTo other u d) where
   other-rows : after v d .rows ≡ v .rows
-  other-rows = own-after other v u b d i .rows ∙ steady-rows u d (i .steady) ∙ sym (b .rows)
+  other-rows = own-after other v u b d i .rows ∙ i .marks ∙ sym (b .rows)
 
-  not-named : (h : ℕ) → desk .handlers h ≡ true → multi h ≡ false → In h (namesOf v d) → ⊥
-  not-named h k m j =
-      let theirs : In h (namesOf u d) = rw (names-same v u d (own-same other v u b d i)) at j in
-      clash (multi h) (several h (apart .handlers h k (i .names h theirs))) m
+  -- a handler of this desk that serves one at a time is not touched: it would be one of the other desk's, too
+  not-touched : (h : ℕ) → desk .handlers h ≡ true → multi h ≡ false → touches (ofHandler h) (outcomeOf v d) ≡ false
+  not-touched h k m =
+      split (touches (ofHandler h) (outcomeOf v d))
+      (λ p. let q : touches (ofHandler h) (outcomeOf u d) ≡ true = rw (own-same other v u b d i) at p in
+      let theirs : other .handlers h ≡ true = ⊎-elim (i .moves h) (i .gives h) (handler-its u d h q) in
+      clash (multi h) (several h (apart .handlers h k theirs)) m)
+      (λ p. p)
 
   other-after : Alike desk (after v d) w
   other-after = record {
     rows = other-rows ∙ a .rows;
     threads = λ t k. thread-left v d t (λ e. apart .threads t k (i .thread t e)) ∙ a .threads t k;
-    handlers = λ h k m. handler-left v d h (not-named h k m) ∙ a .handlers h k m;
+    handlers = λ h k m. part-left (ofHandler h) (outcomeOf v d) (not-touched h k m) (v .places) ∙ a .handlers h k m;
   }
 
 -- ---- all steps
@@ -80,9 +79,9 @@ module _ (desk other : Desk) (apart : Separate desk other) (v w u : View) (a : A
 alike-here : (desk : Desk) (v : View) → Alike desk v v
 alike-here desk v = record { rows = refl; threads = λ t k. refl; handlers = λ h k m. refl }
 
-alone-rows : (desk : Desk) (v : View) (cs : List Step) → AllIts desk v cs → afterAll v cs .rows ≡ v .rows
+alone-rows : (desk : Desk) (v : View) (cs : List Step) → Throughout (KeepsTo desk) v cs → afterAll v cs .rows ≡ v .rows
 alone-rows desk v [] i = refl
-alone-rows desk v (c ∷ cs) i = alone-rows desk (after v c) cs (i .1) ∙ steady-rows v c (i .0 .steady)
+alone-rows desk v (c ∷ cs) i = alone-rows desk (after v c) cs (i .1) ∙ i .0 .marks
 
 same-on : (desk : Desk) (v w : View) → Alike desk v w → SameOn desk v w
 same-on desk v w a = record {
@@ -101,7 +100,7 @@ module _ (one two : Desk) (s : Separate one two) where
     one-ends : Alike one (afterTurns v es) (afterAll u (ones es))
     two-ends : Alike two (afterTurns v es) (afterAll w (twos es))
 
-  goes : (v u w : View) → Alike one v u → Alike two v w → (es : List Turn) → AllIts one u (ones es) → AllIts two w (twos es) → Goes v u w es
+  goes : (v u w : View) → Alike one v u → Alike two v w → (es : List Turn) → Throughout (KeepsTo one) u (ones es) → Throughout (KeepsTo two) w (twos es) → Goes v u w es
   goes v u w a b [] i j = record { one-sees = refl; two-sees = refl; one-ends = a; two-ends = b }
   goes v u w a b (at-one c ∷ es) i j =
       let g = goes (after v c) (after u c) w (own-after one v u a c (i .0)) (other-after two one round v w u b a c (i .0)) es (i .1) j in
@@ -121,8 +120,8 @@ module _ (one two : Desk) (s : Separate one two) where
       }
 
   -- however the two desks' steps come in, 'each desk sees the outcomes that it would see alone'
-  pub as-alone : (v : View) (es : List Turn) → AllIts one v (ones es) → AllIts two v (twos es) → AsAlone one two v es
-  as-alone v es i j =
+  pub kept-alone : (v : View) (es : List Turn) → Throughout (KeepsTo one) v (ones es) → Throughout (KeepsTo two) v (twos es) → AsAlone one two v es
+  kept-alone v es i j =
       let g = goes v v v (alike-here one v) (alike-here two v) es i j in
       record {
         one-sees = g .one-sees;
@@ -131,3 +130,21 @@ module _ (one two : Desk) (s : Separate one two) where
         two-leaves = same-on two (afterTurns v es) (afterAll v (twos es)) (g .two-ends);
         marks = g .one-ends .rows ∙ alone-rows one v (ones es) i;
       }
+
+-- ---- and so where each names its own handlers alone
+
+its-kept : (desk : Desk) (v : View) (c : Step) → Its desk v c → KeepsTo desk v c
+its-kept desk v c i = record {
+  thread = i .thread;
+  asks = λ h j. i .names h (asks-named v c h j);
+  moves = λ h j. i .names h (moves-named v c h j);
+  gives = λ h j. i .names h (gives-named v c h j);
+  marks = steady-rows v c (i .steady);
+}
+
+pub all-kept : (desk : Desk) (v : View) (cs : List Step) → Throughout (Its desk) v cs → Throughout (KeepsTo desk) v cs
+all-kept desk v [] i = tt
+all-kept desk v (c ∷ cs) i = (its-kept desk v c (i .0), all-kept desk (after v c) cs (i .1))
+
+pub as-alone : (one two : Desk) → Separate one two → (v : View) (es : List Turn) → Throughout (Its one) v (ones es) → Throughout (Its two) v (twos es) → AsAlone one two v es
+as-alone one two s v es i j = kept-alone one two s v es (all-kept one v (ones es) i) (all-kept two v (twos es) j)

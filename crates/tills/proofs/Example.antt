@@ -22,10 +22,10 @@ use Rattle.rules.specs.Judge.{busy, judgeCommand, judgeKind, judgeRead, judgeMe
 use Rattle.rules.specs.Apply.{place}
 use Rattle.rules.specs.Words.{treeOf}
 use Rattle.rules.proofs.Sums.{row}
-use Rattle.tills.specs.Tills.{Step, message, giveUp, after, shown, shows, threadOf, namesOf, Steady, Apart, owingsOn}
-use Rattle.tills.specs.Less.{Enough}
-use Rattle.tills.specs.Desks.{Desk, Separate, Its, AllIts, afterAll, Turn, at-one, at-two, ones, twos, AsAlone}
-use Rattle.tills.proofs.Desks.{as-alone}
+use Rattle.tills.specs.Tills.{Step, message, giveUp, outcomeOf, after, shown, shows, threadOf, namesOf, Steady, Apart, owingsOn}
+use Rattle.tills.specs.Less.{asksOf, movesOf, Enough}
+use Rattle.tills.specs.Desks.{Desk, Separate, Its, KeepsTo, Throughout, afterAll, Turn, at-one, at-two, ones, twos, AsAlone}
+use Rattle.tills.proofs.Desks.{kept-alone, as-alone}
 
 -- ---- the kiosk: a till and a card reader at each desk, one security module, the event queue
 
@@ -171,16 +171,36 @@ module _ (desk : Desk) (v : View) where
       named h (inr (inr i)) = absurd i
 
 pub record ByTurns : Type 0 where
-  pub one-its : AllIts desk-one (fresh rows) (ones turns)
-  pub two-its : AllIts desk-two (fresh rows) (twos turns)
+  pub one-its : Throughout (Its desk-one) (fresh rows) (ones turns)
+  pub two-its : Throughout (Its desk-two) (fresh rows) (twos turns)
   pub alone : AsAlone desk-one desk-two (fresh rows) turns
 
 pub by-turns : ByTurns
 unfolding readOf partOf codeOf messageOf categoryOf handlerOf multi own common busy judgeCommand judgeKind judgeRead judgeMessage
 by-turns = record { one-its = one-its; two-its = two-its; alone = as-alone desk-one desk-two separate (fresh rows) turns one-its two-its }
   where
-    one-its : AllIts desk-one (fresh rows) (ones turns)
+    one-its : Throughout (Its desk-one) (fresh rows) (ones turns)
     one-its = (its desk-one _ 0x0001 0x0100 0x42 3 refl refl refl refl refl (refl, refl), (its desk-one _ 0x0202 0x0001 0x45 3 refl refl refl refl refl (refl, refl), tt))
 
-    two-its : AllIts desk-two (fresh rows) (twos turns)
+    two-its : Throughout (Its desk-two) (fresh rows) (twos turns)
     two-its = (its desk-two _ 0x0001 0x0101 0x42 4 refl refl refl refl refl (refl, refl), (its desk-two _ 0x0204 0x0001 0x45 4 refl refl refl refl refl (refl, refl), tt))
+
+-- and both desks may report events, though '0700' is of neither category: such a step asks nobody, and makes nobody busy
+keeps-to : (desk : Desk) (reader t : ℕ) → desk .threads t ≡ true → threadOf (reporting reader t) ≡ some t → asksOf (reporting reader t) ≡ []
+    → movesOf (outcomeOf (fresh rows) (reporting reader t)) ≡ [] → after (fresh rows) (reporting reader t) .rows ≡ rows → KeepsTo desk (fresh rows) (reporting reader t)
+keeps-to desk reader t p k a m r = record {
+  thread = λ u e. let f : some t ≡ some u = sym k ∙ e in let g : t ≡ u = cc in rw (← g) p;
+  asks = λ h i. absurd (nobody (asksOf (reporting reader t)) a h i);
+  moves = λ h i. absurd (nobody (movesOf (outcomeOf (fresh rows) (reporting reader t))) m h i);
+  gives = λ h i. absurd i;
+  marks = r;
+}
+  where
+    nobody : (l : List ℕ) → l ≡ [] → (h : ℕ) → In h l → ⊥
+    nobody l e h i = rw e at i
+
+pub both-desks-report : AsAlone desk-one desk-two (fresh rows) (at-one (reporting 0x0202 3) ∷ at-two (reporting 0x0204 4) ∷ [])
+unfolding readOf partOf codeOf messageOf categoryOf handlerOf multi own common busy judgeCommand judgeKind judgeRead judgeMessage
+both-desks-report =
+    kept-alone desk-one desk-two separate (fresh rows) (at-one (reporting 0x0202 3) ∷ at-two (reporting 0x0204 4) ∷ [])
+    (keeps-to desk-one 0x0202 3 refl refl refl refl refl, tt) (keeps-to desk-two 0x0204 4 refl refl refl refl refl, tt)

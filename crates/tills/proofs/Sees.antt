@@ -32,7 +32,7 @@ module _ (v w : View) (rows : v .rows ≡ w .rows) where
   unfolding judgeRead
   read-same (Unread z) code e f = refl
   read-same (Message h) code e f =
-      rw (kind-same v w rows h (e (h .thread) refl) code (λ p. f (h .thread) refl (handlerOf (h .destination)) (rw p (inl refl))), rows)
+      rw (kind-same v w rows h (e (h .thread) refl) code (λ p q. f (h .thread) refl (handlerOf (h .destination)) (rw (p, q) (inl refl))), rows)
 
   pub outcome-same : (c : Step) → ThreadSame (threadOf c) → BusySame (threadOf c) (asksOf c) → outcomeOf v c ≡ outcomeOf w c
   unfolding judgeMessage

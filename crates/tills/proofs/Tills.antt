@@ -2,7 +2,7 @@
 use Rattle.rules.specs.View.{View}
 use Rattle.tills.specs.Tills.{Step, Apart, Undisturbed}
 use Rattle.tills.specs.Less.{Enough}
-use Rattle.tills.proofs.Reach.{moves-its, asks-named, steady-rows}
+use Rattle.tills.proofs.Reach.{moves-named, asks-named, steady-rows}
 use Rattle.tills.proofs.Less.{enough}
 
 module _ (v : View) (c d : Step) (a : Apart v c d) where
@@ -10,8 +10,8 @@ module _ (v : View) (c d : Step) (a : Apart v c d) where
   pub apart-enough : Enough v c d
   apart-enough = record {
     threads = a .threads;
-    first = record { marks = steady-rows v c (a .steady .0); slots = λ h i j. a .shared h (moves-its v c h i) (asks-named v d h j) };
-    second = record { marks = steady-rows v d (a .steady .1); slots = λ h i j. a .shared h (asks-named v c h j) (moves-its v d h i) };
+    first = record { marks = steady-rows v c (a .steady .0); slots = λ h i j. a .shared h (moves-named v c h i) (asks-named v d h j) };
+    second = record { marks = steady-rows v d (a .steady .1); slots = λ h i j. a .shared h (asks-named v c h j) (moves-named v d h i) };
   }
 
   -- 'either order gives each step the same outcome and the same bytes, and leaves the same trees, open marks and set of owings'

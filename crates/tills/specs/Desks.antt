@@ -8,7 +8,8 @@ use Rattle.lists.specs.Lists.{In}
 use Rattle.tapa.specs.Address.{categoryOf}
 use Rattle.rules.specs.View.{View}
 use Rattle.rules.specs.Words.{treeOf}
-use Rattle.tills.specs.Tills.{Step, after, Shown, shown, threadOf, namesOf, Steady, owingsOn}
+use Rattle.tills.specs.Tills.{Step, outcomeOf, after, Shown, shown, threadOf, givesOf, namesOf, Steady, owingsOn}
+use Rattle.tills.specs.Less.{asksOf, movesOf}
 
 -- a desk: its threads, and the handlers that it has to do with
 pub record Desk : Type 0 where
@@ -26,10 +27,19 @@ pub record Its (desk : Desk) (v : View) (c : Step) : Type 0 where
   pub names : (h : ℕ) → In h (namesOf v c) → desk .handlers h ≡ true
   pub steady : Steady v c
 
--- a desk's list of steps, the oldest first, that is its own when it is alone with the router
-abbrev pub AllIts : Desk → View → List Step → Type 0
-AllIts desk v [] = Unit {0}
-AllIts desk v (c ∷ cs) = Its desk v c × AllIts desk (after v c) cs
+-- less is enough: of the handlers that it names, those that it asks, makes busy or frees, or gives up; and it moves no open mark. So both desks may
+-- report events.
+pub record KeepsTo (desk : Desk) (v : View) (c : Step) : Type 0 where
+  pub thread : (t : ℕ) → threadOf c ≡ some t → desk .threads t ≡ true
+  pub asks : (h : ℕ) → In h (asksOf c) → desk .handlers h ≡ true
+  pub moves : (h : ℕ) → In h (movesOf (outcomeOf v c)) → desk .handlers h ≡ true
+  pub gives : (h : ℕ) → In h (givesOf v c) → desk .handlers h ≡ true
+  pub marks : after v c .rows ≡ v .rows
+
+-- each step of a list, the oldest first, has P when the desk is alone with the router
+abbrev pub Throughout : (View → Step → Type 0) → View → List Step → Type 0
+Throughout P v [] = Unit {0}
+Throughout P v (c ∷ cs) = P v c × Throughout P (after v c) cs
 
 -- what a desk sees when it is alone with the router, and what view it leaves
 abbrev pub seen : View → List Step → List Shown

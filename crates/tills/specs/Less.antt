@@ -1,7 +1,7 @@
 -- Less than the request's premise is enough: what two steps must leave alone for either order to be the same.
 use Prim.Native.Nat.{ℕ, _≤_}
 use mathlib.Core.Path.{_≡_}
-use mathlib.Core.Bool.{cond}
+use mathlib.Core.Bool.{_||_, cond}
 use mathlib.Core.List.{List, [], _∷_}
 use lib.Dec.{eqb}
 use Rattle.lists.specs.Lists.{In}
@@ -13,11 +13,12 @@ use Rattle.message.specs.Message.{readOf}
 use Rattle.rules.specs.View.{View}
 use Rattle.rules.specs.declared.Outcome.{Outcome}
 use Rattle.rules.specs.declared.Outcome.the-variants.{Passed, Answered, Swallowed, Event, Turned, Given, Reset, Refused}
+use Rattle.rules.specs.Judge.{isAddEvent}
 use Rattle.tills.specs.Tills.{Step, message, giveUp, outcomeOf, after, Elsewhere}
 
--- the handler that a command asks; a response asks nobody, nor do bytes that are no message
+-- the handler that a command asks; a response asks nobody, nor does Add Event, nor do bytes that are no message
 abbrev pub readAsks : Reading → List ℕ
-readAsks (Message h) = cond (eqb (h .kind) response) [] (handlerOf (h .destination) ∷ [])
+readAsks (Message h) = cond (eqb (h .kind) response || isAddEvent h) [] (handlerOf (h .destination) ∷ [])
 readAsks (Unread r) = []
 
 abbrev pub asksOf : Step → List ℕ

@@ -94,10 +94,14 @@ givenNames (Given asker asked t) = handlerOf asker ∷ handlerOf asked ∷ []
 givenNames (Reset h) = []
 givenNames (Refused r) = []
 
+abbrev pub givesOf : View → Step → List ℕ
+givesOf v (message s buffer) = []
+givesOf v (giveUp t a buffer) = givenNames (outcomeOf v (giveUp t a buffer))
+
 -- the handlers that a step names
 abbrev pub namesOf : View → Step → List ℕ
 namesOf v (message s buffer) = readNames (readOf s)
-namesOf v (giveUp t a buffer) = givenNames (outcomeOf v (giveUp t a buffer))
+namesOf v (giveUp t a buffer) = givesOf v (giveUp t a buffer)
 
 -- 'any handler that both steps name .. is in category 00 or 01'
 abbrev pub SharesMulti : View → Step → Step → Type 0
