@@ -94,6 +94,7 @@ givenNames (Given asker asked t) = handlerOf asker ∷ handlerOf asked ∷ []
 givenNames (Reset h) = []
 givenNames (Refused r) = []
 
+-- the two handlers of the wait that a step gives up
 abbrev pub givesOf : View → Step → List ℕ
 givesOf v (message s buffer) = []
 givesOf v (giveUp t a buffer) = givenNames (outcomeOf v (giveUp t a buffer))
