@@ -1,6 +1,6 @@
--- How far a call sees and how far its outcome reaches, thread by thread. An outcome touches places of one asked address on one thread, or none. A
--- message or a give up looks at the rows, at the places of its own thread and, where it is a command, at whether the handler that it asks has a
--- command under way. All of it holds in any view.
+-- How far a call sees and how far its outcome reaches, thread by thread. The outcome of a message or a give up touches places of one asked address
+-- on one thread, or none. A give up looks at the places of its own thread; a message looks at the rows, too, and, where it is a command, at whether
+-- the handler that it asks has a command under way. All of it holds in any view.
 use Prim.Native.Nat.{ℕ}
 use mathlib.Core.Path.{_≡_, refl, sym, ap, ap₂, _∙_}
 use mathlib.Core.Bool.{Bool, true, false, not, _||_, cond}
@@ -151,6 +151,17 @@ slot-given h t a u l = some-changed owing (onSlot h t) (asksExactly a u) (λ x. 
 
 -- ---- what a call comes to, in two views
 
+-- Give up
+module _ (v w : View) (t : ℕ) (e : part (ofThread t) (v .places) ≡ part (ofThread t) (w .places)) where
+  yields-same : (o : Option Place) (a : ℕ) → yields (v .places) o t a ≡ yields (w .places) o t a
+  unfolding yields
+  yields-same none a = refl
+  yields-same (some x) a = rw (holding-same t (v .places) (w .places) e a)
+
+  pub give-up-same : (room a : ℕ) → judgeGiveUp v room t a ≡ judgeGiveUp w room t a
+  unfolding judgeGiveUp
+  give-up-same room a = rw (answerable-same t (v .places) (w .places) e a, yields-same (answerable (w .places) a t) a)
+
 module _ (v w : View) (rows : v .rows ≡ w .rows) where
   -- the open marks after an outcome, where its thread's places are the same
   pub rows-same : (o : Outcome) → ((t : ℕ) → touches (ofThread t) o ≡ true → part (ofThread t) (v .places) ≡ part (ofThread t) (w .places))
@@ -163,17 +174,6 @@ module _ (v w : View) (rows : v .rows ≡ w .rows) where
   rows-same (Given asker asked t) e = rows
   rows-same (Reset h) e = rw rows
   rows-same (Refused r) e = rows
-
-  module _ (t : ℕ) (e : part (ofThread t) (v .places) ≡ part (ofThread t) (w .places)) where
-    -- Give up
-    yields-same : (o : Option Place) (a : ℕ) → yields (v .places) o t a ≡ yields (w .places) o t a
-    unfolding yields
-    yields-same none a = refl
-    yields-same (some x) a = rw (holding-same t (v .places) (w .places) e a)
-
-    pub give-up-same : (room a : ℕ) → judgeGiveUp v room t a ≡ judgeGiveUp w room t a
-    unfolding judgeGiveUp
-    give-up-same room a = rw (answerable-same t (v .places) (w .places) e a, yields-same (answerable (w .places) a t) a)
 
   -- a message that was read
   module _ (h : Head) (e : part (ofThread (h .thread)) (v .places) ≡ part (ofThread (h .thread)) (w .places)) where

@@ -7,9 +7,9 @@ use Rattle.rules.specs.Apply.{applied}
 use Rattle.router.specs.declared.Router.{Router}
 use Rattle.router.specs.declared.Routed.{Routed}
 use Rattle.router.specs.Router.{viewOf, Routing}
-use Rattle.tills.specs.Tills.{Step, message, giveUp, bufferOf, outcomeOf, after, Shown, shown, Apart}
-use Rattle.tills.specs.Desks.{Desk, Separate, KeepsTo, Throughout, seen, Turn, ones, twos, seenAtOne, seenAtTwo}
-use Rattle.tills.specs.Calls.{Called, InTurn, EitherOrder, Got, got, Alone, quiet, calls, Together, both-quiet, one-calls, two-calls}
+use Rattle.tills.specs.Tills.{Step, message, giveUp, bufferOf, outcomeOf, after, Shown, shown, Premise}
+use Rattle.tills.specs.Desks.{Desk, Separate, KeepsTo, Throughout, seen, afterAll, Turn, afterTurns, ones, twos, seenAtOne, seenAtTwo}
+use Rattle.tills.specs.Calls.{Called, InTurn, EitherOrder, Got, got, GetsAlone, Alone, quiet, calls, Together, both-quiet, one-calls, two-calls}
 use Rattle.tills.proofs.Tills.{undisturbed}
 use Rattle.tills.proofs.Desks.{kept-alone}
 
@@ -31,7 +31,7 @@ module _ (r : Router) (c d : Step) (x : InTurn r c d) where
   at-end : viewOf (x .second .next) ≡ after (after (viewOf r) c) d
   at-end = second-told .view ∙ ap (applied (outcomeOf (after (viewOf r) c) d)) between
 
-pub either-order : (r : Router) (c d : Step) → Apart (viewOf r) c d → (x : InTurn r c d) (y : InTurn r d c) → EitherOrder r c d x y
+pub either-order : (r : Router) (c d : Step) → Premise (viewOf r) c d → (x : InTurn r c d) (y : InTurn r d c) → EitherOrder r c d x y
 either-order r c d a x y =
     let u = undisturbed (viewOf r) c d a in
     let f : outcomeOf (viewOf r) c ≡ outcomeOf (after (viewOf r) d) c = ap (λ (s : Shown). s .outcome) (u .first) in
@@ -60,30 +60,32 @@ module _ (r : Router) (v : View) (e : viewOf r ≡ v) (c : Step) (buffer : List 
   call-got : got out buffer ≡ handed (shown v c)
   call-got = rw (call-told .outcome, call-told .reply)
 
-alone-told : {r : Router} {cs : List Step} {gs : List Got} → Alone r cs gs → (v : View) → viewOf r ≡ v → gs ≡ map handed (seen v cs)
-alone-told (quiet r) v e = refl
-alone-told (calls r c cs gs buffer out x a) v e =
-    rw (call-got r v e c buffer out x, alone-told a (after v c) (call-view r v e c buffer out x))
+-- what the calls of a list tell: what was got, and the view at the end
+alone-told : {r end : Router} {cs : List Step} {gs : List Got} → Alone r cs gs end → (v : View) → viewOf r ≡ v
+    → (gs ≡ map handed (seen v cs)) × (viewOf end ≡ afterAll v cs)
+alone-told (quiet r) v e = (refl, e)
+alone-told (calls r c cs gs buffer out end x a) v e =
+    let ih = alone-told a (after v c) (call-view r v e c buffer out x) in (rw (call-got r v e c buffer out x, ih .0), ih .1)
 
-one-told : {r : Router} {es : List Turn} {gs hs : List Got} → Together r es gs hs → (v : View) → viewOf r ≡ v → gs ≡ map handed (seenAtOne v es)
-one-told (both-quiet r) v e = refl
-one-told (one-calls r c es gs hs buffer out x a) v e =
-    rw (call-got r v e c buffer out x, one-told a (after v c) (call-view r v e c buffer out x))
-one-told (two-calls r d es gs hs buffer out x a) v e = one-told a (after v d) (call-view r v e d buffer out x)
+together-told : {r end : Router} {es : List Turn} {gs hs : List Got} → Together r es gs hs end → (v : View) → viewOf r ≡ v
+    → (gs ≡ map handed (seenAtOne v es)) × (hs ≡ map handed (seenAtTwo v es)) × (viewOf end ≡ afterTurns v es)
+together-told (both-quiet r) v e = (refl, refl, e)
+together-told (one-calls r c es gs hs buffer out end x a) v e =
+    let ih = together-told a (after v c) (call-view r v e c buffer out x) in (rw (call-got r v e c buffer out x, ih .0), ih .1, ih .2)
+together-told (two-calls r d es gs hs buffer out end x a) v e =
+    let ih = together-told a (after v d) (call-view r v e d buffer out x) in (ih .0, rw (call-got r v e d buffer out x, ih .1), ih .2)
 
-two-told : {r : Router} {es : List Turn} {gs hs : List Got} → Together r es gs hs → (v : View) → viewOf r ≡ v → hs ≡ map handed (seenAtTwo v es)
-two-told (both-quiet r) v e = refl
-two-told (one-calls r c es gs hs buffer out x a) v e = two-told a (after v c) (call-view r v e c buffer out x)
-two-told (two-calls r d es gs hs buffer out x a) v e =
-    rw (call-got r v e d buffer out x, two-told a (after v d) (call-view r v e d buffer out x))
-
-module _ (one two : Desk) (s : Separate one two) (r : Router) (es : List Turn) (i : Throughout (KeepsTo one) (viewOf r) (ones es)) (j : Throughout (KeepsTo two) (viewOf r) (twos es))
-    (gs hs : List Got) (x : Together r es gs hs) where
+module _ (one two : Desk) (s : Separate one two) (r : Router) (es : List Turn) (i : Throughout (KeepsTo one) (viewOf r) (ones es))
+    (j : Throughout (KeepsTo two) (viewOf r) (twos es)) (gs hs : List Got) (end : Router) (x : Together r es gs hs end) where
   -- each desk gets from the router what it would get alone
-  pub one-gets : (alone : List Got) → Alone r (ones es) alone → gs ≡ alone
-  one-gets alone a =
-      one-told x (viewOf r) refl ∙ ap (map handed) (kept-alone one two s (viewOf r) es i j .one-sees) ∙ sym (alone-told a (viewOf r) refl)
+  pub one-gets : (alone : List Got) (alone-end : Router) → Alone r (ones es) alone alone-end → GetsAlone one gs end alone alone-end
+  one-gets alone alone-end a =
+      let t = together-told x (viewOf r) refl in let u = alone-told a (viewOf r) refl in
+      let k = kept-alone one two s (viewOf r) es i j in
+      record { gets = t .0 ∙ ap (map handed) (k .one-sees) ∙ sym (u .0); leaves = rw (t .2, u .1) (k .one-leaves) }
 
-  pub two-gets : (alone : List Got) → Alone r (twos es) alone → hs ≡ alone
-  two-gets alone a =
-      two-told x (viewOf r) refl ∙ ap (map handed) (kept-alone one two s (viewOf r) es i j .two-sees) ∙ sym (alone-told a (viewOf r) refl)
+  pub two-gets : (alone : List Got) (alone-end : Router) → Alone r (twos es) alone alone-end → GetsAlone two hs end alone alone-end
+  two-gets alone alone-end a =
+      let t = together-told x (viewOf r) refl in let u = alone-told a (viewOf r) refl in
+      let k = kept-alone one two s (viewOf r) es i j in
+      record { gets = t .1 ∙ ap (map handed) (k .two-sees) ∙ sym (u .0); leaves = rw (t .2, u .1) (k .two-leaves) }

@@ -3,10 +3,11 @@
 use Prim.Native.Nat.{ℕ}
 use mathlib.Core.Path.{_≡_, refl, sym, ap, _∙_}
 use mathlib.Core.Logic.{⊎-elim}
-use mathlib.Core.Bool.{true, false}
+use mathlib.Core.Bool.{true, false, _||_}
 use mathlib.Core.List.{List, [], _∷_}
 use mathlib.Core.Option.{some}
-use Rattle.lists.proofs.Tests.{split, clash}
+use borrow.Author.Tests.{not-true}
+use Rattle.lists.proofs.Tests.{split, clash, or-no}
 use Rattle.tapa.specs.Address.{multi}
 use Rattle.rules.specs.View.{View}
 use Rattle.rules.specs.declared.Outcome.{Outcome}
@@ -14,10 +15,10 @@ use Rattle.rules.specs.Apply.{rowsAfter, placesAfter}
 use Rattle.rules.proofs.Apart.{touches, part, ofThread, ofHandler, part-left, part-same, multi-same, slot-same, rows-same}
 use Rattle.tills.specs.Tills.{Step, outcomeOf, after, threadOf}
 use Rattle.tills.specs.Less.{asksOf}
-use Rattle.tills.specs.Desks.{Desk, Separate, Its, KeepsTo, Throughout, seen, afterAll, Turn, at-one, at-two, afterTurns, ones, twos, seenAtOne, seenAtTwo, SameOn, AsAlone}
+use Rattle.tills.specs.Desks.{Desk, Separate, OfDesk, KeepsTo, Throughout, seen, afterAll, Turn, at-one, at-two, afterTurns, ones, twos, seenAtOne, seenAtTwo, neither, SameOn, AsAlone}
 use Rattle.tills.proofs.Reach.{thread-its, handler-its, asks-named, moves-named, gives-named, steady-rows, thread-left}
 use Rattle.tills.proofs.Sees.{BusySame, outcome-same}
-use Rattle.tills.proofs.Less.{several, tree-same, owings-same}
+use Rattle.tills.proofs.Less.{multi-by-category, tree-same, owings-same}
 
 -- what a desk can tell of two views
 record Alike (desk : Desk) (v w : View) : Type 0 where
@@ -64,7 +65,7 @@ module _ (desk other : Desk) (apart : Separate desk other) (v w u : View) (a : A
       split (touches (ofHandler h) (outcomeOf v d))
       (λ p. let q : touches (ofHandler h) (outcomeOf u d) ≡ true = rw (own-same other v u b d i) at p in
       let theirs : other .handlers h ≡ true = ⊎-elim (i .moves h) (i .gives h) (handler-its u d h q) in
-      clash (multi h) (several h (apart .handlers h k theirs)) m)
+      clash (multi h) (multi-by-category h (apart .handlers h k theirs)) m)
       (λ p. p)
 
   other-after : Alike desk (after v d) w
@@ -83,10 +84,10 @@ alone-rows : (desk : Desk) (v : View) (cs : List Step) → Throughout (KeepsTo d
 alone-rows desk v [] i = refl
 alone-rows desk v (c ∷ cs) i = alone-rows desk (after v c) cs (i .1) ∙ i .0 .marks
 
-same-on : (desk : Desk) (v w : View) → Alike desk v w → SameOn desk v w
-same-on desk v w a = record {
-  trees = λ t k. tree-same t (v .places) (w .places) (a .threads t k);
-  owings = λ t k. owings-same t (v .places) (w .places) (a .threads t k);
+same-on : (desk : Desk) (v w : View) → ((t : ℕ) → desk .threads t ≡ true → part (ofThread t) (v .places) ≡ part (ofThread t) (w .places)) → SameOn desk v w
+same-on desk v w e = record {
+  trees = λ t k. tree-same t (v .places) (w .places) (e t k);
+  owings = λ t k. owings-same t (v .places) (w .places) (e t k);
 }
 
 module _ (one two : Desk) (s : Separate one two) where
@@ -99,9 +100,10 @@ module _ (one two : Desk) (s : Separate one two) where
     two-sees : seenAtTwo v es ≡ seen w (twos es)
     one-ends : Alike one (afterTurns v es) (afterAll u (ones es))
     two-ends : Alike two (afterTurns v es) (afterAll w (twos es))
+    others : (t : ℕ) → one .threads t ≡ false → two .threads t ≡ false → part (ofThread t) (afterTurns v es .places) ≡ part (ofThread t) (v .places)
 
   goes : (v u w : View) → Alike one v u → Alike two v w → (es : List Turn) → Throughout (KeepsTo one) u (ones es) → Throughout (KeepsTo two) w (twos es) → Goes v u w es
-  goes v u w a b [] i j = record { one-sees = refl; two-sees = refl; one-ends = a; two-ends = b }
+  goes v u w a b [] i j = record { one-sees = refl; two-sees = refl; one-ends = a; two-ends = b; others = λ t p q. refl }
   goes v u w a b (at-one c ∷ es) i j =
       let g = goes (after v c) (after u c) w (own-after one v u a c (i .0)) (other-after two one round v w u b a c (i .0)) es (i .1) j in
       record {
@@ -109,6 +111,7 @@ module _ (one two : Desk) (s : Separate one two) where
         two-sees = g .two-sees;
         one-ends = g .one-ends;
         two-ends = g .two-ends;
+        others = λ t p q. g .others t p q ∙ thread-left v c t (λ e. clash (one .threads t) (i .0 .thread t e) p);
       }
   goes v u w a b (at-two d ∷ es) i j =
       let g = goes (after v d) u (after w d) (other-after one two s v u w a b d (j .0)) (own-after two v w b d (j .0)) es i (j .1) in
@@ -117,23 +120,27 @@ module _ (one two : Desk) (s : Separate one two) where
         two-sees = rw (g .two-sees, own-same two v w b d (j .0));
         one-ends = g .one-ends;
         two-ends = g .two-ends;
+        others = λ t p q. g .others t p q ∙ thread-left v d t (λ e. clash (two .threads t) (j .0 .thread t e) q);
       }
 
-  -- however the two desks' steps come in, 'each desk sees the outcomes that it would see alone'
+  -- however the two desks' steps come in, each desk sees what it would see alone
   pub kept-alone : (v : View) (es : List Turn) → Throughout (KeepsTo one) v (ones es) → Throughout (KeepsTo two) v (twos es) → AsAlone one two v es
   kept-alone v es i j =
       let g = goes v v v (alike-here one v) (alike-here two v) es i j in
       record {
         one-sees = g .one-sees;
         two-sees = g .two-sees;
-        one-leaves = same-on one (afterTurns v es) (afterAll v (ones es)) (g .one-ends);
-        two-leaves = same-on two (afterTurns v es) (afterAll v (twos es)) (g .two-ends);
+        one-leaves = same-on one (afterTurns v es) (afterAll v (ones es)) (g .one-ends .threads);
+        two-leaves = same-on two (afterTurns v es) (afterAll v (twos es)) (g .two-ends .threads);
+        others =
+            same-on (neither one two) (afterTurns v es) v
+            (λ t k. let n = or-no (one .threads t) (two .threads t) (not-true (one .threads t || two .threads t) k) in g .others t (n .0) (n .1));
         marks = g .one-ends .rows ∙ alone-rows one v (ones es) i;
       }
 
 -- ---- and so where each names its own handlers alone
 
-its-kept : (desk : Desk) (v : View) (c : Step) → Its desk v c → KeepsTo desk v c
+its-kept : (desk : Desk) (v : View) (c : Step) → OfDesk desk v c → KeepsTo desk v c
 its-kept desk v c i = record {
   thread = i .thread;
   asks = λ h j. i .names h (asks-named v c h j);
@@ -142,9 +149,9 @@ its-kept desk v c i = record {
   marks = steady-rows v c (i .steady);
 }
 
-pub all-kept : (desk : Desk) (v : View) (cs : List Step) → Throughout (Its desk) v cs → Throughout (KeepsTo desk) v cs
+pub all-kept : (desk : Desk) (v : View) (cs : List Step) → Throughout (OfDesk desk) v cs → Throughout (KeepsTo desk) v cs
 all-kept desk v [] i = tt
 all-kept desk v (c ∷ cs) i = (its-kept desk v c (i .0), all-kept desk (after v c) cs (i .1))
 
-pub as-alone : (one two : Desk) → Separate one two → (v : View) (es : List Turn) → Throughout (Its one) v (ones es) → Throughout (Its two) v (twos es) → AsAlone one two v es
+pub as-alone : (one two : Desk) → Separate one two → (v : View) (es : List Turn) → Throughout (OfDesk one) v (ones es) → Throughout (OfDesk two) v (twos es) → AsAlone one two v es
 as-alone one two s v es i j = kept-alone one two s v es (all-kept one v (ones es) i) (all-kept two v (twos es) j)

@@ -22,9 +22,9 @@ use Rattle.rules.specs.Judge.{busy, judgeCommand, judgeKind, judgeRead, judgeMe
 use Rattle.rules.specs.Apply.{place}
 use Rattle.rules.specs.Words.{treeOf}
 use Rattle.rules.proofs.Sums.{row}
-use Rattle.tills.specs.Tills.{Step, message, giveUp, outcomeOf, after, shown, shows, threadOf, namesOf, Steady, Apart, owingsOn}
+use Rattle.tills.specs.Tills.{Step, message, giveUp, outcomeOf, after, shown, shows, threadOf, namesOf, Steady, Premise, owingsOn}
 use Rattle.tills.specs.Less.{asksOf, movesOf, Enough}
-use Rattle.tills.specs.Desks.{Desk, Separate, Its, KeepsTo, Throughout, afterAll, Turn, at-one, at-two, ones, twos, AsAlone}
+use Rattle.tills.specs.Desks.{Desk, Separate, OfDesk, KeepsTo, Throughout, afterAll, Turn, at-one, at-two, ones, twos, AsAlone}
 use Rattle.tills.proofs.Desks.{kept-alone, as-alone}
 
 -- ---- the kiosk: a till and a card reader at each desk, one security module, the event queue
@@ -58,8 +58,8 @@ giving = giveUp 4 0x0204 ten
 pub two-threads : (t : ℕ) → some 3 ≡ some t → some 4 ≡ some t → ⊥
 two-threads t p q = let e : _≡_ {A = ℕ} 3 t = cc in let f : _≡_ {A = ℕ} 4 t = cc in omega arith
 
--- both name the module, and nobody else
-pub share-module : Apart before asking giving
+-- the module is the only one that both name
+pub share-module : Premise before asking giving
 unfolding readOf partOf codeOf messageOf categoryOf handlerOf multi own common busy judgeCommand judgeKind judgeRead judgeMessage yields judgeGiveUp
 share-module = record { threads = two-threads; shared = only-module; steady = ((refl, refl), (refl, refl)) }
   where
@@ -73,6 +73,7 @@ share-module = record { threads = two-threads; shared = only-module; steady = ((
 -- what each step shows and what the two leave, in the one order and in the other
 pub record Computed : Type 0 where
   pub first : shown before asking ≡ shows asking (Passed 0x0001 0x0202 0x45 3)
+  pub first-out : shown before asking .out ≡ messageOf 0x0202 0x0001 0x45 3 []
   pub first-then : shown (after before giving) asking ≡ shows asking (Passed 0x0001 0x0202 0x45 3)
   pub second : shown before giving .buffer ≡ responseOf 0x0001 0x0204 4 0xFFF3
   pub second-then : shown (after before asking) giving ≡ shown before giving
@@ -88,6 +89,7 @@ pub either-way : Computed
 unfolding readOf partOf codeOf messageOf responseOf categoryOf handlerOf multi own common busy judgeCommand judgeKind judgeRead judgeMessage yields judgeGiveUp
 either-way = record {
   first = refl;
+  first-out = refl;
   first-then = refl;
   second = refl;
   second-then = refl;
@@ -100,14 +102,15 @@ either-way = record {
   marks = refl;
 }
 
--- ---- less than the premise is met: both readers report an event to '0700', which nobody but one can serve at a time
+-- ---- less than the premise: both readers report an event to '0700', which is single, so the premise does not let them share it; but neither makes it
+-- busy
 
 abbrev reporting : ℕ → ℕ → Step
 reporting reader t = says 0x0700 reader 0xC0 t
 
 pub record Weaker : Type 0 where
   pub enough : Enough (fresh rows) (reporting 0x0202 3) (reporting 0x0204 4)
-  pub not-apart : Apart (fresh rows) (reporting 0x0202 3) (reporting 0x0204 4) → ⊥
+  pub not-premise : Premise (fresh rows) (reporting 0x0202 3) (reporting 0x0204 4) → ⊥
 
 pub both-report : Weaker
 unfolding readOf partOf codeOf messageOf categoryOf handlerOf multi own common busy judgeCommand judgeKind judgeRead judgeMessage
@@ -117,7 +120,7 @@ both-report = record {
     first = record { marks = refl; slots = λ h i j. absurd i };
     second = record { marks = refl; slots = λ h i j. absurd i };
   };
-  not-apart = λ a. let k : categoryOf 0x0700 ≤ 1 = a .shared 0x0700 (inr (inl refl)) (inr (inl refl)) in absurd (omega arith);
+  not-premise = λ a. let k : categoryOf 0x0700 ≤ 1 = a .shared 0x0700 (inr (inl refl)) (inr (inl refl)) in absurd (omega arith);
 }
 
 -- ---- two desks with two steps each: what is asked of them can be met
@@ -155,35 +158,41 @@ separate = record { threads = λ t p q. halves (ltb t 4) p q; handlers = λ h p 
     shared h (inr (inr (inl e))) q = clash false (rw (← e) at q) refl
     shared h (inr (inr (inr i))) q = absurd i
 
--- what a step of two handlers on one thread meets
-module _ (desk : Desk) (v : View) where
-  its : (d s kind t : ℕ) → namesOf v (says d s kind t) ≡ s ∷ d ∷ [] → threadOf (says d s kind t) ≡ some t → desk .threads t ≡ true → desk .handlers s ≡ true → desk .handlers d ≡ true
-      → Steady v (says d s kind t) → Its desk v (says d s kind t)
-  its d s kind t n k p q r z = record {
-    thread = λ u e. let f : some t ≡ some u = sym k ∙ e in let g : t ≡ u = cc in rw (← g) p;
-    names = λ h i. named h (rw n at i);
+-- a step is of a desk, where its thread, its source and its destination are
+module _ (desk : Desk) (v : View) (d s kind t : ℕ) where
+  of-desk : (threadOf (says d s kind t) ≡ some t) × (namesOf v (says d s kind t) ≡ s ∷ d ∷ []) → desk .threads t ≡ true
+      → (desk .handlers s ≡ true) × (desk .handlers d ≡ true) → Steady v (says d s kind t) → OfDesk desk v (says d s kind t)
+  of-desk told p q z = record {
+    thread = λ u e. let f : some t ≡ some u = sym (told .0) ∙ e in let g : t ≡ u = cc in rw (← g) p;
+    names = λ h i. named h (rw (told .1) at i);
     steady = z;
   }
     where
       named : (h : ℕ) → In h (s ∷ d ∷ []) → desk .handlers h ≡ true
-      named h (inl e) = rw (← e) q
-      named h (inr (inl e)) = rw (← e) r
+      named h (inl e) = rw (← e) (q .0)
+      named h (inr (inl e)) = rw (← e) (q .1)
       named h (inr (inr i)) = absurd i
 
 pub record ByTurns : Type 0 where
-  pub one-its : Throughout (Its desk-one) (fresh rows) (ones turns)
-  pub two-its : Throughout (Its desk-two) (fresh rows) (twos turns)
+  pub one-its : Throughout (OfDesk desk-one) (fresh rows) (ones turns)
+  pub two-its : Throughout (OfDesk desk-two) (fresh rows) (twos turns)
   pub alone : AsAlone desk-one desk-two (fresh rows) turns
 
 pub by-turns : ByTurns
 unfolding readOf partOf codeOf messageOf categoryOf handlerOf multi own common busy judgeCommand judgeKind judgeRead judgeMessage
 by-turns = record { one-its = one-its; two-its = two-its; alone = as-alone desk-one desk-two separate (fresh rows) turns one-its two-its }
   where
-    one-its : Throughout (Its desk-one) (fresh rows) (ones turns)
-    one-its = (its desk-one _ 0x0001 0x0100 0x42 3 refl refl refl refl refl (refl, refl), (its desk-one _ 0x0202 0x0001 0x45 3 refl refl refl refl refl (refl, refl), tt))
+    one-its : Throughout (OfDesk desk-one) (fresh rows) (ones turns)
+    one-its = (
+      of-desk desk-one _ 0x0001 0x0100 0x42 3 (refl, refl) refl (refl, refl) (refl, refl),
+      (of-desk desk-one _ 0x0202 0x0001 0x45 3 (refl, refl) refl (refl, refl) (refl, refl), tt),
+    )
 
-    two-its : Throughout (Its desk-two) (fresh rows) (twos turns)
-    two-its = (its desk-two _ 0x0001 0x0101 0x42 4 refl refl refl refl refl (refl, refl), (its desk-two _ 0x0204 0x0001 0x45 4 refl refl refl refl refl (refl, refl), tt))
+    two-its : Throughout (OfDesk desk-two) (fresh rows) (twos turns)
+    two-its = (
+      of-desk desk-two _ 0x0001 0x0101 0x42 4 (refl, refl) refl (refl, refl) (refl, refl),
+      (of-desk desk-two _ 0x0204 0x0001 0x45 4 (refl, refl) refl (refl, refl) (refl, refl), tt),
+    )
 
 -- and both desks may report events, though '0700' is of neither category: such a step asks nobody, and makes nobody busy
 keeps-to : (desk : Desk) (reader t : ℕ) → desk .threads t ≡ true → threadOf (reporting reader t) ≡ some t → asksOf (reporting reader t) ≡ []

@@ -1,14 +1,15 @@
 -- Two steps that leave alone what the other looks at: either order is the same.
 use Prim.Native.Nat.{ℕ, _≤_}
-use mathlib.Core.Path.{_≡_, sym, ap, _∙_}
+use mathlib.Core.Path.{_≡_, refl, sym, ap, _∙_}
 use mathlib.Core.Logic.{_⊎_, inl, inr, ⊎-elim}
-use mathlib.Core.Bool.{Bool, true}
+use mathlib.Core.Bool.{Bool, true, false}
 use mathlib.Core.List.{List}
 use mathlib.Core.Option.{Option, none, some}
 use lib.Dec.{eqb}
+use lib.ListN.{length}
 use borrow.Author.Tests.{le-leb, eqb-true, eqb-false}
 use Rattle.lists.specs.Lists.{keep, In}
-use Rattle.lists.proofs.Tests.{split, and-yes, differ}
+use Rattle.lists.proofs.Tests.{split, clash, and-yes, differ}
 use Rattle.lists.proofs.Kept.{keep-wider}
 use Rattle.lists.proofs.Members.{in-or-not}
 use Rattle.tapa.specs.Address.{categoryOf, multi}
@@ -16,18 +17,23 @@ use Rattle.place.specs.declared.Place.{Place}
 use Rattle.places.specs.Places.{isOpen, isOwed, onThread, openOn, owedOn}
 use Rattle.rules.specs.View.{View}
 use Rattle.rules.specs.declared.Outcome.{Outcome}
+use Rattle.rules.specs.declared.Outcome.the-variants.{Passed, Answered, Swallowed, Event, Turned, Given, Reset, Refused}
+use Rattle.rules.specs.Judge as rules
 use Rattle.rules.specs.Apply.{rowsAfter, placesAfter}
+use Rattle.rules.specs.Says.{GivesUp}
 use Rattle.rules.specs.Words.{treeOf}
+use Rattle.rules.proofs.Says.{says}
+use Rattle.rules.proofs.Untouched.{give-up-rows}
 use Rattle.rules.proofs.Apart.{part, ofThread, part-same, multi-same, rows-same}
-use Rattle.tills.specs.Tills.{Step, outcomeOf, after, shows, threadOf, Elsewhere, owingsOn, Undisturbed}
-use Rattle.tills.specs.Less.{asksOf, movesOf, Leaves, Enough}
+use Rattle.tills.specs.Tills.{Step, giveUp, outcomeOf, after, shows, threadOf, DifferentThreads, owingsOn, Undisturbed}
+use Rattle.tills.specs.Less.{asksOf, movesOf, LeavesAlone, Enough}
 use Rattle.tills.proofs.Reach.{thread-its, thread-left, busy-left}
 use Rattle.tills.proofs.Sees.{BusySame, outcome-same}
 
 -- 'in category 00 or 01': one command a thread
-pub several : (h : ℕ) → categoryOf h ≤ 1 → multi h ≡ true
+pub multi-by-category : (h : ℕ) → categoryOf h ≤ 1 → multi h ≡ true
 unfolding categoryOf multi
-several h e = le-leb _ _ e
+multi-by-category h e = le-leb _ _ e
 
 -- a thread is that of a step or not
 thread-or-not : (o : Option ℕ) (t : ℕ) → (o ≡ some t) ⊎ (o ≡ some t → ⊥)
@@ -49,14 +55,14 @@ module _ (t : ℕ) (l m : List Place) (e : part (ofThread t) l ≡ part (ofThrea
 
 -- ---- the second step, after the first and without it
 
-module _ (v : View) (c d : Step) (n : Elsewhere c d) (l : Leaves v c d) where
+module _ (v : View) (c d : Step) (n : DifferentThreads c d) (l : LeavesAlone v c d) where
   its-thread : (t : ℕ) → threadOf d ≡ some t → part (ofThread t) (after v c .places) ≡ part (ofThread t) (v .places)
   its-thread t e = thread-left v c t (λ f. n t f e)
 
   as-busy : BusySame (after v c) v (l .marks) (threadOf d) (asksOf d)
   as-busy t e h i =
       ⊎-elim
-      (λ (j : In h (movesOf (outcomeOf v c))). multi-same t (after v c .places) (v .places) (its-thread t e) h (several h (l .slots h j i)))
+      (λ (j : In h (movesOf (outcomeOf v c))). multi-same t (after v c .places) (v .places) (its-thread t e) h (multi-by-category h (l .slots h j i)))
       (λ (j : In h (movesOf (outcomeOf v c)) → ⊥). busy-left v c h t j)
       (in-or-not h (movesOf (outcomeOf v c)))
 
@@ -78,7 +84,7 @@ module _ (v : View) (c d : Step) (n : Elsewhere c d) (l : Leaves v c d) where
 -- ---- either order
 
 module _ (v : View) (c d : Step) (e : Enough v c d) where
-  round : Elsewhere d c
+  round : DifferentThreads d c
   round t p q = e .threads t q p
 
   places-same : (t : ℕ) → part (ofThread t) (after (after v c) d .places) ≡ part (ofThread t) (after (after v d) c .places)
@@ -103,3 +109,26 @@ module _ (v : View) (c d : Step) (e : Enough v c d) where
       owings = λ t. owings-same t (after (after v c) d .places) (after (after v d) c .places) (places-same t);
     };
   }
+
+-- ---- a give up disturbs nobody, whoever is named: who is given up stays as busy as before
+
+given-moves : (t a : ℕ) (o : Outcome) → GivesUp t a o → (h : ℕ) → In h (movesOf o) → ⊥
+given-moves t a (Passed asker asked kind u) (inl e) h i = clash false e refl
+given-moves t a (Answered asked asker u k) (inl e) h i = clash false e refl
+given-moves t a (Swallowed asked u) (inl e) h i = clash false e refl
+given-moves t a Event (inl e) h i = i
+given-moves t a (Turned asker asked u k) (inl e) h i = i
+given-moves t a (Given asker asked u) (inl e) h i = i
+given-moves t a (Reset x) (inl e) h i = clash false e refl
+given-moves t a (Refused r) (inl e) h i = i
+given-moves t a o (inr s) h i = let z : In h (movesOf (Given (s .0) a t)) = rw (s .1) at i in z
+
+pub give-up-free : (v : View) (t a : ℕ) (buffer : List ℕ) (d : Step) → DifferentThreads (giveUp t a buffer) d → after v d .rows ≡ v .rows
+    → Undisturbed v (giveUp t a buffer) d
+give-up-free v t a buffer d n m =
+    let moves : (h : ℕ) → In h (movesOf (outcomeOf v (giveUp t a buffer))) → ⊥ = given-moves t a _ (says v (length buffer) (rules.giveUp t a)) in
+    enough v (giveUp t a buffer) d (record {
+      threads = n;
+      first = record { marks = sym (give-up-rows v (length buffer) t a); slots = λ h i j. absurd (moves h i) };
+      second = record { marks = m; slots = λ h i j. absurd j };
+    })

@@ -1,5 +1,6 @@
 pub mod Reach
 pub mod Sees
+pub mod Words
 pub mod Less
 pub mod Tills
 pub mod AsOften

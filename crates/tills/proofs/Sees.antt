@@ -37,4 +37,4 @@ module _ (v w : View) (rows : v .rows ≡ w .rows) where
   pub outcome-same : (c : Step) → ThreadSame (threadOf c) → BusySame (threadOf c) (asksOf c) → outcomeOf v c ≡ outcomeOf w c
   unfolding judgeMessage
   outcome-same (message s buffer) e f = rw (read-same (readOf s) (codeOf (partOf s)) e f)
-  outcome-same (giveUp t a buffer) e f = give-up-same v w rows t (e t refl) (length buffer) a
+  outcome-same (giveUp t a buffer) e f = give-up-same v w t (e t refl) (length buffer) a

@@ -7,7 +7,7 @@ use Rattle.router.specs.declared.Router.{Router}
 use Rattle.router.specs.declared.Routed.{Routed}
 use Rattle.router.specs.Router.{viewOf, Routes, GivesUp}
 use Rattle.tills.specs.Tills.{Step, message, giveUp, Same}
-use Rattle.tills.specs.Desks.{Turn, at-one, at-two}
+use Rattle.tills.specs.Desks.{Desk, Turn, at-one, at-two, SameOn}
 
 -- a step as a call of the code: what it hands back, and what its reply buffer then holds
 abbrev pub Called : Router → Step → (buffer : List ℕ) → Routed → Type 0
@@ -44,16 +44,21 @@ pub record Got : Type 0 where
 abbrev pub got : Routed → List ℕ → Got
 got out buffer = record { outcome = out .outcome; buffer = buffer }
 
--- a desk's calls when it is alone with the router, with what it got
-pub data Alone : Router → List Step → List Got → Type 0 where
-  quiet : (r : Router) → Alone r [] []
-  calls : (r : Router) (c : Step) (cs : List Step) (gs : List Got) (buffer : List ℕ) (out : Routed) → Called r c buffer out → Alone (out .next) cs gs
-      → Alone r (c ∷ cs) (got out buffer ∷ gs)
+-- a desk's calls when it is alone with the router: what it got, and the router after them
+pub data Alone : Router → List Step → List Got → Router → Type 0 where
+  quiet : (r : Router) → Alone r [] [] r
+  calls : (r : Router) (c : Step) (cs : List Step) (gs : List Got) (buffer : List ℕ) (out : Routed) (end : Router) → Called r c buffer out → Alone (out .next) cs gs end
+      → Alone r (c ∷ cs) (got out buffer ∷ gs) end
 
--- both desks' calls in the order in which they came, with what each desk got
-pub data Together : Router → List Turn → List Got → List Got → Type 0 where
-  both-quiet : (r : Router) → Together r [] [] []
-  one-calls : (r : Router) (c : Step) (es : List Turn) (gs hs : List Got) (buffer : List ℕ) (out : Routed) → Called r c buffer out → Together (out .next) es gs hs
-      → Together r (at-one c ∷ es) (got out buffer ∷ gs) hs
-  two-calls : (r : Router) (d : Step) (es : List Turn) (gs hs : List Got) (buffer : List ℕ) (out : Routed) → Called r d buffer out → Together (out .next) es gs hs
-      → Together r (at-two d ∷ es) gs (got out buffer ∷ hs)
+-- both desks' calls in the order in which they came: what each desk got, and the router after them
+pub data Together : Router → List Turn → List Got → List Got → Router → Type 0 where
+  both-quiet : (r : Router) → Together r [] [] [] r
+  one-calls : (r : Router) (c : Step) (es : List Turn) (gs hs : List Got) (buffer : List ℕ) (out : Routed) (end : Router) → Called r c buffer out
+      → Together (out .next) es gs hs end → Together r (at-one c ∷ es) (got out buffer ∷ gs) hs end
+  two-calls : (r : Router) (d : Step) (es : List Turn) (gs hs : List Got) (buffer : List ℕ) (out : Routed) (end : Router) → Called r d buffer out
+      → Together (out .next) es gs hs end → Together r (at-two d ∷ es) gs (got out buffer ∷ hs) end
+
+-- a desk got what it gets alone, and the routers have the same trees and owings on its threads
+pub record GetsAlone (desk : Desk) (gots : List Got) (end : Router) (alone : List Got) (alone-end : Router) : Type 0 where
+  pub gets : gots ≡ alone
+  pub leaves : SameOn desk (viewOf end) (viewOf alone-end)

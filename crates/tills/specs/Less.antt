@@ -1,4 +1,4 @@
--- Less than the request's premise is enough: what two steps must leave alone for either order to be the same.
+-- Less than the request's premise: what it is enough for two steps to leave alone.
 use Prim.Native.Nat.{ℕ, _≤_}
 use mathlib.Core.Path.{_≡_}
 use mathlib.Core.Bool.{_||_, cond}
@@ -14,7 +14,7 @@ use Rattle.rules.specs.View.{View}
 use Rattle.rules.specs.declared.Outcome.{Outcome}
 use Rattle.rules.specs.declared.Outcome.the-variants.{Passed, Answered, Swallowed, Event, Turned, Given, Reset, Refused}
 use Rattle.rules.specs.Judge.{isAddEvent}
-use Rattle.tills.specs.Tills.{Step, message, giveUp, outcomeOf, after, Elsewhere}
+use Rattle.tills.specs.Tills.{Step, message, giveUp, outcomeOf, after, DifferentThreads}
 
 -- the handler that a command asks; a response asks nobody, nor does Add Event, nor do bytes that are no message
 abbrev pub readAsks : Reading → List ℕ
@@ -38,11 +38,11 @@ movesOf (Refused r) = []
 
 -- the first step leaves alone what the second looks at: it moves no open mark, and makes no handler busy or free that the second asks, but of
 -- category 00 and 01
-pub record Leaves (v : View) (c d : Step) : Type 0 where
+pub record LeavesAlone (v : View) (c d : Step) : Type 0 where
   pub marks : after v c .rows ≡ v .rows
   pub slots : (h : ℕ) → In h (movesOf (outcomeOf v c)) → In h (asksOf d) → categoryOf h ≤ 1
 
 pub record Enough (v : View) (c d : Step) : Type 0 where
-  pub threads : Elsewhere c d
-  pub first : Leaves v c d
-  pub second : Leaves v d c
+  pub threads : DifferentThreads c d
+  pub first : LeavesAlone v c d
+  pub second : LeavesAlone v d c

@@ -1,7 +1,7 @@
 -- Two steps on different threads: 'Desk one and desk two run on different threads, and trainers want to say that one cannot disturb the other.'
 use Prim.Native.Nat.{ℕ, _≤_}
 use mathlib.Core.Path.{_≡_}
-use mathlib.Core.Bool.{Bool, false, _||_}
+use mathlib.Core.Bool.{Bool, false, _||_, _&&_}
 use mathlib.Core.List.{List, [], _∷_}
 use mathlib.Core.Option.{Option, none, some}
 use lib.Dec.{eqb}
@@ -73,8 +73,8 @@ threadOf (message s buffer) = readThread (readOf s)
 threadOf (giveUp t a buffer) = some t
 
 -- 'on different threads': no thread is that of both
-abbrev pub Elsewhere : Step → Step → Type 0
-Elsewhere c d = (t : ℕ) → threadOf c ≡ some t → threadOf d ≡ some t → ⊥
+abbrev pub DifferentThreads : Step → Step → Type 0
+DifferentThreads c d = (t : ℕ) → threadOf c ≡ some t → threadOf d ≡ some t → ⊥
 
 -- ---- the premise: who is named
 
@@ -105,8 +105,8 @@ namesOf v (message s buffer) = readNames (readOf s)
 namesOf v (giveUp t a buffer) = givesOf v (giveUp t a buffer)
 
 -- 'any handler that both steps name .. is in category 00 or 01'
-abbrev pub SharesMulti : View → Step → Step → Type 0
-SharesMulti v c d = (h : ℕ) → In h (namesOf v c) → In h (namesOf v d) → categoryOf h ≤ 1
+abbrev pub SharesOnlyMulti : View → Step → Step → Type 0
+SharesOnlyMulti v c d = (h : ℕ) → In h (namesOf v c) → In h (namesOf v d) → categoryOf h ≤ 1
 
 -- ---- the premise: nobody is opened or closed
 
@@ -141,11 +141,11 @@ commandsOne (giveUp t a buffer) = false
 abbrev pub Steady : View → Step → Type 0
 Steady v c = (commandsOne c ≡ false) × (answersOne v (outcomeOf v c) ≡ false)
 
--- ---- the whole premise
+-- ---- the whole premise, all of it in the view from which both orders start
 
-pub record Apart (v : View) (c d : Step) : Type 0 where
-  pub threads : Elsewhere c d
-  pub shared : SharesMulti v c d
+pub record Premise (v : View) (c d : Step) : Type 0 where
+  pub threads : DifferentThreads c d
+  pub shared : SharesOnlyMulti v c d
   pub steady : Steady v c × Steady v d
 
 -- ---- the conclusion
@@ -154,12 +154,16 @@ pub record Apart (v : View) (c d : Step) : Type 0 where
 abbrev pub owingsOn : ℕ → List Place → List Place
 owingsOn t places = keep (owedOn t) places
 
--- 'the same trees, open marks and set of owings': the trees and the owings thread by thread. That then every owing stands in both as often is
--- proved (proofs/AsOften.antt).
+-- 'the same trees, open marks and set of owings': the trees and the owings thread by thread. That then every owing stands in both as often
+-- (`isIt` counts one) is proved: proofs/AsOften.antt.
 pub record Same (v w : View) : Type 0 where
   pub trees : (t : ℕ) → treeOf t (v .places) ≡ treeOf t (w .places)
   pub marks : v .rows ≡ w .rows
   pub owings : (t : ℕ) → owingsOn t (v .places) ≡ owingsOn t (w .places)
+
+-- the owing x is the owing p
+abbrev pub isIt : (p x : Place) → Bool
+isIt p x = eqb (x .asker) (p .asker) && (eqb (x .asked) (p .asked) && (eqb (x .kind) (p .kind) && eqb (x .thread) (p .thread)))
 
 -- 'either order gives each step the same outcome and the same bytes, and leaves the same trees, open marks and set of owings'
 pub record Undisturbed (v : View) (c d : Step) : Type 0 where

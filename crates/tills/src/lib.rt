@@ -7,8 +7,8 @@
 // specs/Calls.antt the same of two calls of the code. specs/Desks.antt goes on to two whole lists of
 // steps, interleaved in any way: each desk sees what it would see alone.
 //
-// Less than that premise is enough (specs/Less.antt), and no part of it can be left out
-// (specs/Needed.antt).
+// Less than that premise is enough (specs/Less.antt). None of its three parts can be left out whole:
+// the threads, who is shared, who is opened or closed (specs/Needed.antt).
 //
 // There is no code here. What is used of the rules stands with them: how far a call sees, and how far
 // its outcome reaches (rules, proofs/Apart.antt).
