@@ -3,7 +3,7 @@
 use Prim.Native.Nat.{ℕ}
 use mathlib.Core.Path.{_≡_, refl, sym, ap, _∙_}
 use mathlib.Core.Logic.{⊎-elim}
-use mathlib.Core.Bool.{true, false, _||_}
+use mathlib.Core.Bool.{Bool, true, false, _||_}
 use mathlib.Core.List.{List, [], _∷_}
 use mathlib.Core.Option.{some}
 use borrow.Author.Tests.{not-true}
@@ -15,7 +15,7 @@ use Rattle.rules.specs.Apply.{rowsAfter, placesAfter}
 use Rattle.rules.proofs.Apart.{touches, part, ofThread, ofHandler, part-left, part-same, multi-same, slot-same, rows-same}
 use Rattle.tills.specs.Tills.{Step, outcomeOf, after, threadOf}
 use Rattle.tills.specs.Less.{asksOf}
-use Rattle.tills.specs.Desks.{Desk, Separate, OfDesk, KeepsTo, Throughout, seen, afterAll, Turn, at-one, at-two, afterTurns, ones, twos, seenAtOne, seenAtTwo, neither, SameOn, AsAlone}
+use Rattle.tills.specs.Desks.{Desk, Separate, OfDesk, KeepsTo, Throughout, seen, afterAll, Turn, at-one, at-two, afterTurns, ones, twos, seenAtOne, seenAtTwo, SameOn, ofNeither, AsAlone}
 use Rattle.tills.proofs.Reach.{thread-its, handler-its, asks-named, moves-named, gives-named, steady-rows, thread-left}
 use Rattle.tills.proofs.Sees.{BusySame, outcome-same}
 use Rattle.tills.proofs.Less.{multi-by-category, tree-same, owings-same}
@@ -84,8 +84,8 @@ alone-rows : (desk : Desk) (v : View) (cs : List Step) → Throughout (KeepsTo d
 alone-rows desk v [] i = refl
 alone-rows desk v (c ∷ cs) i = alone-rows desk (after v c) cs (i .1) ∙ i .0 .marks
 
-same-on : (desk : Desk) (v w : View) → ((t : ℕ) → desk .threads t ≡ true → part (ofThread t) (v .places) ≡ part (ofThread t) (w .places)) → SameOn desk v w
-same-on desk v w e = record {
+same-on : (threads : ℕ → Bool) (v w : View) → ((t : ℕ) → threads t ≡ true → part (ofThread t) (v .places) ≡ part (ofThread t) (w .places)) → SameOn threads v w
+same-on threads v w e = record {
   trees = λ t k. tree-same t (v .places) (w .places) (e t k);
   owings = λ t k. owings-same t (v .places) (w .places) (e t k);
 }
@@ -130,10 +130,10 @@ module _ (one two : Desk) (s : Separate one two) where
       record {
         one-sees = g .one-sees;
         two-sees = g .two-sees;
-        one-leaves = same-on one (afterTurns v es) (afterAll v (ones es)) (g .one-ends .threads);
-        two-leaves = same-on two (afterTurns v es) (afterAll v (twos es)) (g .two-ends .threads);
+        one-leaves = same-on (one .threads) (afterTurns v es) (afterAll v (ones es)) (g .one-ends .threads);
+        two-leaves = same-on (two .threads) (afterTurns v es) (afterAll v (twos es)) (g .two-ends .threads);
         others =
-            same-on (neither one two) (afterTurns v es) v
+            same-on (ofNeither one two) (afterTurns v es) v
             (λ t k. let n = or-no (one .threads t) (two .threads t) (not-true (one .threads t || two .threads t) k) in g .others t (n .0) (n .1));
         marks = g .one-ends .rows ∙ alone-rows one v (ones es) i;
       }

@@ -61,4 +61,4 @@ pub data Together : Router → List Turn → List Got → List Got → Router �
 -- a desk got what it gets alone, and the routers have the same trees and owings on its threads
 pub record GetsAlone (desk : Desk) (gots : List Got) (end : Router) (alone : List Got) (alone-end : Router) : Type 0 where
   pub gets : gots ≡ alone
-  pub leaves : SameOn desk (viewOf end) (viewOf alone-end)
+  pub leaves : SameOn (desk .threads) (viewOf end) (viewOf alone-end)

@@ -1,7 +1,7 @@
 -- Two whole lists of steps, one on desk one's threads and one on desk two's, interleaved in any way.
 use Prim.Native.Nat.{ℕ, _≤_}
 use mathlib.Core.Path.{_≡_}
-use mathlib.Core.Bool.{Bool, true, false, not, _||_}
+use mathlib.Core.Bool.{Bool, true, not, _||_}
 use mathlib.Core.List.{List, [], _∷_}
 use mathlib.Core.Option.{some}
 use Rattle.lists.specs.Lists.{In}
@@ -86,20 +86,19 @@ seenAtTwo v [] = []
 seenAtTwo v (at-one c ∷ es) = seenAtTwo (after v c) es
 seenAtTwo v (at-two d ∷ es) = shown v d ∷ seenAtTwo (after v d) es
 
--- the threads that are of neither desk
-abbrev pub neither : Desk → Desk → Desk
-neither one two = record { threads = λ t. not (one .threads t || two .threads t); handlers = λ h. false }
+-- on these threads the trees and the owings are the same
+pub record SameOn (threads : ℕ → Bool) (v w : View) : Type 0 where
+  pub trees : (t : ℕ) → threads t ≡ true → treeOf t (v .places) ≡ treeOf t (w .places)
+  pub owings : (t : ℕ) → threads t ≡ true → owingsOn t (v .places) ≡ owingsOn t (w .places)
 
--- on the desk's threads the trees and the owings are the same
-pub record SameOn (desk : Desk) (v w : View) : Type 0 where
-  pub trees : (t : ℕ) → desk .threads t ≡ true → treeOf t (v .places) ≡ treeOf t (w .places)
-  pub owings : (t : ℕ) → desk .threads t ≡ true → owingsOn t (v .places) ≡ owingsOn t (w .places)
+abbrev pub ofNeither : (one two : Desk) → ℕ → Bool
+ofNeither one two t = not (one .threads t || two .threads t)
 
 -- each desk sees what it would see alone, and leaves on its threads what it would leave alone; threads of neither desk and open marks are left
 pub record AsAlone (one two : Desk) (v : View) (es : List Turn) : Type 0 where
   pub one-sees : seenAtOne v es ≡ seen v (ones es)
   pub two-sees : seenAtTwo v es ≡ seen v (twos es)
-  pub one-leaves : SameOn one (afterTurns v es) (afterAll v (ones es))
-  pub two-leaves : SameOn two (afterTurns v es) (afterAll v (twos es))
-  pub others : SameOn (neither one two) (afterTurns v es) v
+  pub one-leaves : SameOn (one .threads) (afterTurns v es) (afterAll v (ones es))
+  pub two-leaves : SameOn (two .threads) (afterTurns v es) (afterAll v (twos es))
+  pub others : SameOn (ofNeither one two) (afterTurns v es) v
   pub marks : afterTurns v es .rows ≡ v .rows
