@@ -8,8 +8,9 @@ use mathlib.Core.Option.{some}
 use native.Mathlib.Omega.{arith}
 use lib.Dec.{eqb}
 use borrow.Author.Tests.{eqb-true}
-use Rattle.lists.specs.Lists.{count, keep, first, without, In}
+use Rattle.lists.specs.Lists.{count, someOf, keep, first, without, In}
 use Rattle.lists.proofs.Tests.{split, differ, eqb-same}
+use Rattle.lists.proofs.Counts.{none-zero, count-some}
 use Rattle.lists.proofs.Kept.{without-apart}
 use Rattle.lists.proofs.First.{count-first}
 use Rattle.lists.proofs.Members.{in-keep, in-kept}
@@ -49,6 +50,12 @@ module _ {A : Type 0} (key : A → ℕ) where
   same-counts q (x ∷ l) m e =
       let h = taken-out x l m e in
       omega (arith, count-first q (hasKey (key x)) m x (h .0), same-counts q l (without (hasKey (key x)) m) (h .1))
+
+  pub same-some : (q : A → Bool) (l m : List A) → SameKeyed l m → someOf q l ≡ someOf q m
+  same-some q l m e =
+      let c = same-counts q l m e in
+      split (someOf q l) (λ p. split (someOf q m) (λ r. p ∙ sym r) (λ r. absurd (omega (arith, count-some q l p, none-zero q m r))))
+      (λ p. split (someOf q m) (λ r. absurd (omega (arith, count-some q m r, none-zero q l p))) (λ r. p ∙ sym r))
 
   -- and so they have the same members
   pub same-members : (l m : List A) → SameKeyed l m → (x : A) → In x l → In x m

@@ -87,7 +87,7 @@ module _ (v : View) (c d : Step) (e : Enough v c d) where
   round : DifferentThreads d c
   round t p q = e .threads t q p
 
-  places-same : (t : ℕ) → part (ofThread t) (after (after v c) d .places) ≡ part (ofThread t) (after (after v d) c .places)
+  pub places-same : (t : ℕ) → part (ofThread t) (after (after v c) d .places) ≡ part (ofThread t) (after (after v d) c .places)
   places-same t =
       ⊎-elim
       (λ (p : threadOf d ≡ some t). places-off v c d (e .threads) (e .first) t (λ q. e .threads t q p)

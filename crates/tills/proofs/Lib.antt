@@ -4,6 +4,7 @@ pub mod Words
 pub mod Less
 pub mod Tills
 pub mod AsOften
+pub mod Later
 pub mod Desks
 pub mod Calls
 pub mod Example

@@ -34,7 +34,11 @@ module _ (v w : View) (rows : v .rows ≡ w .rows) where
   read-same (Message h) code e f =
       rw (kind-same v w rows h (e (h .thread) refl) code (λ p q. f (h .thread) refl (handlerOf (h .destination)) (rw (p, q) (inl refl))), rows)
 
-  pub outcome-same : (c : Step) → ThreadSame (threadOf c) → BusySame (threadOf c) (asksOf c) → outcomeOf v c ≡ outcomeOf w c
+  pub message-same : (room : ℕ) (s : List ℕ) → ThreadSame (readThread (readOf s)) → BusySame (readThread (readOf s)) (readAsks (readOf s))
+      → judgeMessage v room s ≡ judgeMessage w room s
   unfolding judgeMessage
-  outcome-same (message s buffer) e f = rw (read-same (readOf s) (codeOf (partOf s)) e f)
+  message-same room s e f = rw (read-same (readOf s) (codeOf (partOf s)) e f)
+
+  pub outcome-same : (c : Step) → ThreadSame (threadOf c) → BusySame (threadOf c) (asksOf c) → outcomeOf v c ≡ outcomeOf w c
+  outcome-same (message s buffer) e f = message-same (length buffer) s e f
   outcome-same (giveUp t a buffer) e f = give-up-same v w t (e t refl) (length buffer) a

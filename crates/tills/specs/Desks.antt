@@ -27,8 +27,8 @@ pub record OfDesk (desk : Desk) (v : View) (c : Step) : Type 0 where
   pub names : (h : ℕ) → In h (namesOf v c) → desk .handlers h ≡ true
   pub steady : Steady v c
 
--- less is enough: of the handlers that it names, those that it asks, makes busy or frees, or gives up; and it moves no open mark. So both desks may
--- report events.
+-- less is enough: of the handlers that it names, those that it asks, those that it makes busy or frees, and the two of a wait that it gives up; and
+-- it moves no open mark. So both desks may report events.
 pub record KeepsTo (desk : Desk) (v : View) (c : Step) : Type 0 where
   pub thread : (t : ℕ) → threadOf c ≡ some t → desk .threads t ≡ true
   pub asks : (h : ℕ) → In h (asksOf c) → desk .handlers h ≡ true

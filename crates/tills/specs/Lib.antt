@@ -3,3 +3,4 @@ pub mod Less
 pub mod Desks
 pub mod Calls
 pub mod Needed
+pub mod Later
