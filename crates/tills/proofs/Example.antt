@@ -76,6 +76,7 @@ pub record Computed : Type 0 where
   pub first-out : shown before asking .out ≡ messageOf 0x0202 0x0001 0x45 3 []
   pub first-then : shown (after before giving) asking ≡ shows asking (Passed 0x0001 0x0202 0x45 3)
   pub second : shown before giving .buffer ≡ responseOf 0x0001 0x0204 4 0xFFF3
+  pub second-out : shown before giving .out ≡ responseOf 0x0001 0x0204 4 0xFFF3
   pub second-then : shown (after before asking) giving ≡ shown before giving
   pub tree-3 : treeOf 3 (after (after before asking) giving .places) ≡ place 0x0001 0x0202 0x45 3 ∷ place 0x0100 0x0001 0x42 3 ∷ []
   pub tree-3-then : treeOf 3 (after (after before giving) asking .places) ≡ place 0x0001 0x0202 0x45 3 ∷ place 0x0100 0x0001 0x42 3 ∷ []
@@ -92,6 +93,7 @@ either-way = record {
   first-out = refl;
   first-then = refl;
   second = refl;
+  second-out = refl;
   second-then = refl;
   tree-3 = refl;
   tree-3-then = refl;

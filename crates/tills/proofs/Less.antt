@@ -24,7 +24,7 @@ use Rattle.rules.specs.Says.{GivesUp}
 use Rattle.rules.specs.Words.{treeOf}
 use Rattle.rules.proofs.Says.{says}
 use Rattle.rules.proofs.Untouched.{give-up-rows}
-use Rattle.rules.proofs.Apart.{part, ofThread, part-same, multi-same, rows-same}
+use Rattle.rules.proofs.Apart.{part, ofThread, part-same, multi-same, rows-same, give-up-same}
 use Rattle.tills.specs.Tills.{Step, giveUp, outcomeOf, after, shows, threadOf, DifferentThreads, owingsOn, Undisturbed}
 use Rattle.tills.specs.Less.{asksOf, movesOf, LeavesAlone, Enough}
 use Rattle.tills.proofs.Reach.{thread-its, thread-left, busy-left}
@@ -75,42 +75,49 @@ module _ (v : View) (c d : Step) (n : DifferentThreads c d) (l : LeavesAlone v c
       ap (λ (o : Outcome). rowsAfter o (after v c)) second-same
       ∙ rows-same (after v c) v (l .marks) (outcomeOf v d) (λ t e. its-thread t (thread-its v d t e))
 
-  -- off the first step's thread, the places after both are those after the second alone
-  places-off : (t : ℕ) → (threadOf c ≡ some t → ⊥) → part (ofThread t) (after (after v c) d .places) ≡ part (ofThread t) (after v d .places)
-  places-off t m =
-      ap (λ (o : Outcome). part (ofThread t) (placesAfter o (after v c .places))) second-same
-      ∙ part-same (ofThread t) (after v c .places) (v .places) (thread-left v c t m) (outcomeOf v d)
-
 -- ---- either order
+
+-- off the first step's thread, the places after both are those after the second alone
+places-off : (v : View) (c d : Step) → outcomeOf (after v c) d ≡ outcomeOf v d
+    → (t : ℕ) → (threadOf c ≡ some t → ⊥) → part (ofThread t) (after (after v c) d .places) ≡ part (ofThread t) (after v d .places)
+places-off v c d e t n =
+    ap (λ (o : Outcome). part (ofThread t) (placesAfter o (after v c .places))) e
+    ∙ part-same (ofThread t) (after v c .places) (v .places) (thread-left v c t n) (outcomeOf v d)
+
+-- two steps that each have the same outcome first and second leave the same on every thread
+module _ (v : View) (c d : Step) (n : DifferentThreads c d) (e : outcomeOf (after v c) d ≡ outcomeOf v d) (f : outcomeOf (after v d) c ≡ outcomeOf v c) where
+  places-both : (t : ℕ) → part (ofThread t) (after (after v c) d .places) ≡ part (ofThread t) (after (after v d) c .places)
+  places-both t =
+      ⊎-elim
+      (λ (p : threadOf d ≡ some t). places-off v c d e t (λ q. n t q p) ∙ sym (thread-left (after v d) c t (λ q. n t q p)))
+      (λ (p : threadOf d ≡ some t → ⊥). thread-left (after v c) d t p ∙ sym (places-off v d c f t p))
+      (thread-or-not (threadOf d) t)
+
+  both-orders : after (after v c) d .rows ≡ after (after v d) c .rows → Undisturbed v c d
+  both-orders marks = record {
+    first = ap (shows c) (sym f);
+    second = ap (shows d) e;
+    left = record {
+      trees = λ t. tree-same t (after (after v c) d .places) (after (after v d) c .places) (places-both t);
+      marks = marks;
+      owings = λ t. owings-same t (after (after v c) d .places) (after (after v d) c .places) (places-both t);
+    };
+  }
 
 module _ (v : View) (c d : Step) (e : Enough v c d) where
   round : DifferentThreads d c
   round t p q = e .threads t q p
 
   pub places-same : (t : ℕ) → part (ofThread t) (after (after v c) d .places) ≡ part (ofThread t) (after (after v d) c .places)
-  places-same t =
-      ⊎-elim
-      (λ (p : threadOf d ≡ some t). places-off v c d (e .threads) (e .first) t (λ q. e .threads t q p)
-      ∙ sym (thread-left (after v d) c t (λ q. e .threads t q p)))
-      (λ (p : threadOf d ≡ some t → ⊥). thread-left (after v c) d t p ∙ sym (places-off v d c round (e .second) t p))
-      (thread-or-not (threadOf d) t)
+  places-same = places-both v c d (e .threads) (second-same v c d (e .threads) (e .first)) (second-same v d c round (e .second))
 
   pub enough : Undisturbed v c d
-  enough = record {
-    first = ap (shows c) (sym (second-same v d c round (e .second)));
-    second = ap (shows d) (second-same v c d (e .threads) (e .first));
-    left = record {
-      trees = λ t. tree-same t (after (after v c) d .places) (after (after v d) c .places) (places-same t);
-      marks =
-          marks-both v c d (e .threads) (e .first)
-          ∙ e .second .marks
-          ∙ sym (e .first .marks)
-          ∙ sym (marks-both v d c round (e .second));
-      owings = λ t. owings-same t (after (after v c) d .places) (after (after v d) c .places) (places-same t);
-    };
-  }
+  enough =
+      both-orders v c d (e .threads) (second-same v c d (e .threads) (e .first)) (second-same v d c round (e .second))
+      (marks-both v c d (e .threads) (e .first) ∙ e .second .marks ∙ sym (e .first .marks) ∙ sym (marks-both v d c round (e .second)))
 
--- ---- a give up disturbs nobody, whoever is named: who is given up stays as busy as before
+-- ---- a give up disturbs nobody on another thread, and nobody disturbs it, whoever is named: who is given up stays as busy as before, and a give up
+-- looks at its own thread alone
 
 given-moves : (t a : ℕ) (o : Outcome) → GivesUp t a o → (h : ℕ) → In h (movesOf o) → ⊥
 given-moves t a (Passed asker asked kind u) (inl e) h i = clash false e refl
@@ -123,12 +130,10 @@ given-moves t a (Reset x) (inl e) h i = clash false e refl
 given-moves t a (Refused r) (inl e) h i = i
 given-moves t a o (inr s) h i = let z : In h (movesOf (Given (s .0) a t)) = rw (s .1) at i in z
 
-pub give-up-free : (v : View) (t a : ℕ) (buffer : List ℕ) (d : Step) → DifferentThreads (giveUp t a buffer) d → after v d .rows ≡ v .rows
-    → Undisturbed v (giveUp t a buffer) d
-give-up-free v t a buffer d n m =
-    let moves : (h : ℕ) → In h (movesOf (outcomeOf v (giveUp t a buffer))) → ⊥ = given-moves t a _ (says v (length buffer) (rules.giveUp t a)) in
-    enough v (giveUp t a buffer) d (record {
-      threads = n;
-      first = record { marks = sym (give-up-rows v (length buffer) t a); slots = λ h i j. absurd (moves h i) };
-      second = record { marks = m; slots = λ h i j. absurd j };
-    })
+pub give-up-free : (v : View) (t a : ℕ) (buffer : List ℕ) (d : Step) → DifferentThreads (giveUp t a buffer) d → Undisturbed v (giveUp t a buffer) d
+give-up-free v t a buffer d n =
+    let g : Step = giveUp t a buffer in
+    let moves : (h : ℕ) → In h (movesOf (outcomeOf v g)) → ⊥ = given-moves t a _ (says v (length buffer) (rules.giveUp t a)) in
+    let l : LeavesAlone v g d = record { marks = sym (give-up-rows v (length buffer) t a); slots = λ h i j. absurd (moves h i) } in
+    let e : outcomeOf (after v d) g ≡ outcomeOf v g = give-up-same (after v d) v t (thread-left v d t (λ f. n t refl f)) (length buffer) a in
+    both-orders v g d n (second-same v g d n l) e (marks-both v g d n l ∙ give-up-rows (after v d) (length buffer) t a)

@@ -1,5 +1,5 @@
 -- The premise asks for what the request's sentences say of a step: no less, and no more.
-use Prim.Native.Nat.{ℕ}
+use Prim.Native.Nat.{ℕ, _≤_}
 use mathlib.Core.Path.{_≡_, refl, ap, _∙_}
 use mathlib.Core.Logic.{_⊎_, inl, inr}
 use mathlib.Core.Bool.{true, false}
@@ -8,8 +8,9 @@ use mathlib.Core.Option.{none, some}
 use lib.Dec.{eqb}
 use lib.ListN.{length}
 use borrow.Author.Tests.{eqb-true}
+use Rattle.lists.specs.Lists.{In}
 use Rattle.lists.proofs.Tests.{split, clash, differ}
-use Rattle.tapa.specs.Address.{handlerOf}
+use Rattle.tapa.specs.Address.{categoryOf, handlerOf}
 use Rattle.tapa.specs.Codes.{openHandler, closeHandler}
 use Rattle.tapa.specs.declared.Refusal.{Refusal}
 use Rattle.message.specs.declared.Head.{Head}
@@ -23,7 +24,7 @@ use Rattle.rules.specs.Judge as rules
 use Rattle.rules.specs.Judge.{answerable}
 use Rattle.rules.specs.Says.{GivesUp}
 use Rattle.rules.proofs.Says.{says}
-use Rattle.tills.specs.Tills.{message, giveUp, outcomeOf, threadOf, namesOf, opensOrCloses, waitCommands, answersOne, commandsOne, Steady}
+use Rattle.tills.specs.Tills.{Step, message, giveUp, outcomeOf, threadOf, namesOf, opensOrCloses, waitCommands, answersOne, commandsOne, Steady, Premise}
 
 -- ---- a message
 
@@ -99,3 +100,14 @@ module _ (v : View) (t a : ℕ) (buffer : List ℕ) where
   -- it is no such command, and answers none
   pub give-up-steady : Steady v (giveUp t a buffer)
   give-up-steady = (refl, answers-none v _ (not-answered _ (says v (length buffer) (rules.giveUp t a))))
+
+-- ---- the whole premise is these, and nothing beside them
+
+pub premise-by : (v : View) (c d : Step)
+    → ((t : ℕ) → threadOf c ≡ some t → threadOf d ≡ some t → ⊥)
+    → ((h : ℕ) → In h (namesOf v c) → In h (namesOf v d) → categoryOf h ≤ 1)
+    → (commandsOne c ≡ false) × (commandsOne d ≡ false)
+    → (answersOne v (outcomeOf v c) ≡ false) × (answersOne v (outcomeOf v d) ≡ false)
+    → Premise v c d
+premise-by v c d threads shared commands answers =
+    record { threads = threads; shared = shared; steady = ((commands .0, answers .0), (commands .1, answers .1)) }

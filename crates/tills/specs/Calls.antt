@@ -25,8 +25,8 @@ pub record InTurn (r : Router) (c d : Step) : Type 0 where
   pub second-buffer : List ℕ
   pub second-called : Called (first .next) d second-buffer second
 
--- either order: each step has the same outcome, and the same bytes in its reply buffer, four in all; and the two routers have the same trees, open
--- marks and set of owings
+-- either order: each step has the same outcome, and the same bytes in its reply buffer, four buffers in all; and the two routers have the same
+-- trees, open marks and set of owings
 pub record EitherOrder (r : Router) (c d : Step) (x : InTurn r c d) (y : InTurn r d c) : Type 0 where
   pub first-outcome : x .first .outcome ≡ y .second .outcome
   pub first-buffer : x .first-buffer ≡ y .second-buffer
