@@ -131,9 +131,8 @@ module _ (t : Option ℕ) (names gives : List ℕ) where
   rows-left v (Reset h) s e = absurd s
   rows-left v (Refused r) s e = refl
 
--- ---- whom it does not make busy or free
+-- ---- whom it does not make busy or free is as busy as before
 
--- is as busy as before
 module _ (h t : ℕ) (l : List Place) where
   by-part : (o : Outcome) → touches (ofHandler h) o ≡ false → someOf (onSlot h t) (placesAfter o l) ≡ someOf (onSlot h t) l
   by-part o n = slot-same h t (placesAfter o l) l (part-left (ofHandler h) o n l)
@@ -191,6 +190,6 @@ module _ (v : View) (c : Step) where
   thread-left u n =
       part-left (ofThread u) (outcomeOf v c) (split (touches (ofThread u) (outcomeOf v c)) (λ p. absurd (n (thread-its u p))) (λ p. p)) (v .places)
 
-  -- and one that it does not move is as busy as before
+  -- and a handler that it does not make busy or free is as busy as before
   pub busy-left : (h t : ℕ) → (In h (movesOf (outcomeOf v c)) → ⊥) → someOf (onSlot h t) (after v c .places) ≡ someOf (onSlot h t) (v .places)
   busy-left h t n = slot-left h t (v .places) (threadOf c) (namesOf v c) (givesOf v c) (outcomeOf v c) (about v c) n

@@ -7,8 +7,9 @@
 // two calls of the code. specs/Desks.antt goes on to two whole lists of steps, interleaved in any way:
 // each desk sees what it would see alone.
 //
-// Less than that premise is enough (specs/Less.antt). None of its three parts can be left out whole:
-// the threads, who is shared, who is opened or closed (specs/Needed.antt).
+// Less than that premise is enough (specs/Less.antt), but none of the premise's three parts can be left
+// out whole: the threads, who is shared, who is opened or closed (specs/Needed.antt). And no later call
+// can tell the two orders apart (specs/Later.antt).
 //
 // There is no code here. What is used of the rules stands with them: how far a call sees, and how far
 // its outcome reaches (rules, proofs/Apart.antt).
