@@ -116,7 +116,7 @@ module _ (v : View) (c d : Step) (e : Enough v c d) where
       both-orders v c d (e .threads) (second-same v c d (e .threads) (e .first)) (second-same v d c round (e .second))
       (marks-both v c d (e .threads) (e .first) ∙ e .second .marks ∙ sym (e .first .marks) ∙ sym (marks-both v d c round (e .second)))
 
--- ---- a give up disturbs nobody on another thread, and nobody disturbs it, whoever is named: who is given up stays as busy as before, and a give up
+-- ---- a give up and a step on another thread do not disturb one another, whoever is named: who is given up stays as busy as before, and a give up
 -- looks at its own thread alone
 
 given-moves : (t a : ℕ) (o : Outcome) → GivesUp t a o → (h : ℕ) → In h (movesOf o) → ⊥
