@@ -1,5 +1,5 @@
 -- Laws of members, and of elements that are changed or left out one by one.
-use Prim.Native.Nat.{ℕ, _+_, _≤_}
+use Prim.Native.Nat.{ℕ, zero, suc, _+_, _≤_}
 use mathlib.Core.Path.{_≡_, refl, sym, _∙_}
 use mathlib.Core.Logic.{_⊎_, inl, inr}
 use mathlib.Core.Bool.{Bool, true, false, not, cond}
@@ -7,7 +7,7 @@ use mathlib.Core.List.{List, [], _∷_, _++_}
 use mathlib.Core.Option.{Option, none, some}
 use native.Mathlib.Omega.{arith}
 use lib.Dec.{eqb}
-use lib.ListN.{length}
+use lib.ListN.{length, take}
 use borrow.Author.Tests.{eqb-true, eqb-false}
 use Rattle.lists.specs.Lists.{count, someOf, keep, first, changed, All, In}
 use Rattle.lists.proofs.Tests.{split, clash}
@@ -59,6 +59,19 @@ module _ {A : Type 0} where
   in-all P x [] a i = absurd i
   in-all P x (y ∷ l) a (inl e) = rw e at (a .0)
   in-all P x (y ∷ l) a (inr i) = in-all P x l (a .1) i
+
+  pub all-of : (P : A → Type 0) (l : List A) → ((x : A) → In x l → P x) → All P l
+  all-of P [] f = tt
+  all-of P (x ∷ l) f = (f x (inl refl), all-of P l (λ y i. f y (inr i)))
+
+  pub all-append : (P : A → Type 0) (a b : List A) → All P a → All P b → All P (a ++ b)
+  all-append P [] b p q = q
+  all-append P (x ∷ a) b p q = (p .0, all-append P a b (p .1) q)
+
+  pub all-take : (P : A → Type 0) (n : ℕ) (l : List A) → All P l → All P (take n l)
+  all-take P zero l p = tt
+  all-take P (suc n) [] p = tt
+  all-take P (suc n) (x ∷ l) p = (p .0, all-take P n l (p .1))
 
   -- what passes is the one that is found first, where no two pass
   pub only : (q : A → Bool) (l : List A) (x y : A) → count q l ≤ 1 → first q l ≡ some x → In y l → q y ≡ true → y ≡ x
