@@ -1,3 +1,4 @@
 pub mod Filling
 pub mod Text
 pub mod Once
+pub mod Next

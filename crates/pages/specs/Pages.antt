@@ -9,6 +9,7 @@ use Rattle.lists.specs.Lists.{joined}
 use Rattle.rules.specs.View.{View}
 use Rattle.router.specs.Router.{viewOf, Lawful}
 use Rattle.text.specs.Text.{pen, puts}
+use Rattle.run.specs.declared.Item.{Item}
 use Rattle.run.specs.declared.Cursor.{Cursor}
 use Rattle.run.specs.declared.Session.{Session}
 use Rattle.run.specs.State.{itemsLeft, Sound, nextOf}
@@ -35,6 +36,10 @@ leftIn s x = map lineOf (itemsLeft s (x .view) (x .cursor))
 
 abbrev pub linesLeft : List ℕ → Session → List (List ℕ)
 linesLeft s w = leftIn s (sightOf w)
+
+-- the item that is handed out
+abbrev pub itemIn : List ℕ → Session → Item
+itemIn s w = nextOf s (viewOf (w .router)) (w .cursor) .item
 
 -- after n items
 abbrev pub turned : List ℕ → Sight → Sight

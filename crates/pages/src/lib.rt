@@ -19,7 +19,8 @@ pub struct Page {
     pub next: Session,
 }
 
-fn is_nothing(item: Item) -> bool
+// Whether nothing is left.
+pub fn is_nothing(item: Item) -> bool
     ensures { λ r. ⌜ not r ≡ handsOut item ⌝ }
 {
     match item {

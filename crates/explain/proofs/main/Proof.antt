@@ -1,0 +1,30 @@
+-- `explain::main` is safe and ends. Before the test, the number is that of an argument, or 2 at most. Assumes nothing.
+use Prim.Native.Nat.{_+_, _-_, _≤_}
+use borrow.Author.Needs.{needs}
+use Rattle.explain.proofs.main.Statement.{statement}
+use Rattle.explain.proofs.main.Tie as tie
+
+abbrev Inv-loop : tie.InvT-loop
+Inv-loop sheet count i₀ i = i ≤ 2 + (count - 3)
+
+abbrev μ-loop : tie.MeasureT-loop
+μ-loop sheet count i₀ i = count - i
+
+pub main-spec : {M : Type 1} → statement M
+main-spec =
+    tie.close
+    (tie.spec
+    Inv-loop
+    μ-loop
+    (λ c κs. search needs)
+    (λ c. search needs)
+    (λ c κs. search needs)
+    (λ c κs. search needs)
+    (λ c κs. search needs)
+    (λ c. search needs)
+    (λ c κs. search needs)
+    (λ c. search needs)
+    (λ c. search needs)
+    (λ c. search needs)
+    (λ c. search needs)
+    (λ c. search needs))
