@@ -1,0 +1,66 @@
+// Draws a session file as an SVG picture: a column for each handler, time downwards, an arrow a step.
+//
+// Usage: ./kiosk ladder [FILE] > PICTURE.svg
+//
+// Without a file it reads standard input. Any browser shows the picture and prints it on A4 paper, 40
+// steps a page; the pages stand one below the other. docs/book/explained.md tells how to read it.
+//
+// The sheet of shapes is written before anything is read. No contract can say what is read or written;
+// the last that is proved is that of crate `picture`. `show` writes each part once, in order.
+
+// Draws the rows of one input; false where they cannot be written.
+fn show_rows(sheet: &[u8; 65536], input: &[u8], total: usize) -> bool {
+    let mut page = io::large_buffer();
+    let mut session = run::begin(input);
+    loop {
+        let row = picture::next_row(session, total, input, sheet, &mut page);
+        let used = row.used;
+        if !inputs::write(b"ladder", &page[..used]) {
+            return false;
+        }
+        if !row.more {
+            return true;
+        }
+        session = row.next;
+    }
+}
+
+fn show(sheet: &[u8; 65536], input: &[u8]) {
+    let mut page = io::large_buffer();
+    let total = picture::count_rows(run::begin(input), input);
+    let begun = picture::opening(total, sheet, &mut page);
+    if !inputs::write(b"ladder", &page[..begun]) {
+        return;
+    }
+    if !show_rows(sheet, input, total) {
+        return;
+    }
+    let ended = picture::closing(sheet, &mut page);
+    inputs::write(b"ladder", &page[..ended]);
+}
+
+// Reads one byte more than a session file may have, so that a longer one is seen. Of a file that
+// cannot be read nothing is drawn; `inputs` has said why.
+fn show_input(sheet: &[u8; 65536], i: usize) {
+    let mut input = [0u8; 65537];
+    let waits = b"waiting for a session file on standard input (Ctrl-D ends it)";
+    let got = inputs::read(b"ladder", waits, i, &mut input);
+    if !got.whole {
+        return;
+    }
+    let n = got.length;
+    show(sheet, &input[..n])
+}
+
+// One picture at a time: two would be no file that a browser shows.
+fn main() {
+    let first = inputs::first_name();
+    if first + 1 < os::arg_count() {
+        inputs::say(b"ladder", b"one file at a time");
+        inputs::tell(b"2");
+        return;
+    }
+    let mut sheet = io::large_buffer();
+    stencil::write_sheet(&mut sheet);
+    show_input(&sheet, first);
+}
