@@ -21,8 +21,8 @@ pub enum What {
 }
 
 // Its numbers, and 0 where there is no such number. The length is that of the data; of bytes that are
-// too few for a message it is how many they are. Where the length does not agree, the code is the one
-// that was announced. A give up and a replaced call name their address as `to`.
+// too few for a message it is how many they are. Of bytes that do not read otherwise, `code` has the
+// length that was announced. A give up and a replaced call name their address as `to`.
 pub struct Arrival {
     pub what: What,
     pub to: u16,

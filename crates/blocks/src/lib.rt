@@ -2,8 +2,8 @@
 //
 // A block begins with the line of its item, and below it stand words. What the words are is chosen in
 // crate `telling`, and nothing is promised of it. Each of their lines is set in by four spaces here, and
-// no line of a transcript begins with a space. So the words cannot tell another story: of all that is
-// written, the lines that begin with no space are the transcript, byte for byte (proofs/Heads.antt,
+// no line of a transcript begins with a space. So the words cannot be taken for the transcript: of all
+// that is written, the lines that begin with no space are the transcript, byte for byte (proofs/Heads.antt,
 // `first-lines`).
 use run::Session;
 ghost use mathlib.Core.Path.{_≡_};

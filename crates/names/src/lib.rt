@@ -54,7 +54,7 @@ pub fn type_name(kind: u8) -> usize {
     }
 }
 
-// A code that no part of the kiosk makes has the last of the cells.
+// A code that router, queue and store do not make has the last of the cells.
 pub fn code_name(code: u16) -> usize {
     match code {
         0x0000 => CODES,
@@ -221,7 +221,7 @@ fn write_codes(sheet: &mut [u8]) {
         CODES + 12,
         b"File seek error|Search key already existing|No Events in Queue|No Matching Events in Queue",
     );
-    forms::engrave(sheet, CODES + 16, b"a code that no part of the kiosk makes");
+    forms::engrave(sheet, CODES + 16, b"a code of the device");
 }
 
 // What the support book calls each refusal.

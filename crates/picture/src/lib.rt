@@ -3,7 +3,7 @@
 // Which forms are drawn is chosen in crate `drawing`; here they are written, and nothing else is. So a
 // picture is forms of the sheet, whatever the session file has in it, and what fills a form's holes are
 // digits or other wordings: nothing of the file's bytes is written but as digits (proofs/Inked.antt).
-// A part that were longer than its page would be cut; the longest row has under a third of it.
+// A part longer than its page would be cut; the longest row has under a third of one.
 //
 // A part is the file's beginning, a row, or its end; the parts in order are the picture.
 use run::Session;

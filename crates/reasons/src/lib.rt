@@ -1,7 +1,8 @@
 // Reasons: why a command was turned back, or a step refused, in one line of words.
 //
-// The reason is read off the router as it was before the step: who had to answer whom, and who was
-// closed or had no row. Where the code or the refusal says all there is to say, there is no line.
+// The reason is read off the code or the number, and off the router as it was before the step: who had
+// to answer whom, and who was closed or had no row. Where the code or the refusal says all there is to
+// say, there is no line.
 //
 // As in crate `telling`, nothing is promised of the words.
 use arrivals::Arrival;

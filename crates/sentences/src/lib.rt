@@ -1,7 +1,8 @@
 // Sentences: the wordings of the program that explains a session, on a sheet.
 //
 // Every line that is said below a line of the transcript is one of these forms, or a few of them one
-// after the other. `#`, `@`, `^` and `$` are holes (crate `forms`). Crate `telling` chooses among them.
+// after the other. `#`, `@`, `^` and `$` are holes (crate `forms`). Crates `telling` and `reasons` choose
+// among them.
 
 pub const ENCIPHERED: usize = names::FREE;
 
@@ -215,7 +216,7 @@ fn write_causes(sheet: &mut [u8]) {
     forms::engrave(
         sheet,
         TORN,
-        b"thread #: from the $ @$ to the $ @$: # bytes of data announced, # came",
+        b"thread #: from the $ @$ to the $ @$: bytes of data announced: #, came: #",
     );
 }
 

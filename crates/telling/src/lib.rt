@@ -459,7 +459,7 @@ fn tell_page(words: &mut [u8], at: usize, sheet: &[u8], outcome: Outcome) -> usi
     }
 }
 
-// Whether what came has a thread of its own, one that there is.
+// Whether the thread of what came is told of: bytes that do not read have none.
 fn has_thread(came: Arrival) -> bool {
     let what = came.what;
     match what {
