@@ -7,7 +7,7 @@ use native.Mathlib.Omega.{arith}
 use lib.ListN.{length, getD}
 use Rattle.tapa.specs.Address.{categoryOf, subAddressOf, handlerOf, multi}
 use Rattle.tapa.specs.Codes.{handlerBusy}
-use Rattle.types.specs.Types.{own, common}
+use Rattle.known_types.specs.Types.{own, common}
 use Rattle.tapa.specs.declared.Refusal.{Refusal}
 use Rattle.tapa.specs.declared.Refusal.the-variants.{TooShort}
 use Rattle.message.specs.Message.{readOf, partOf, codeOf}

@@ -6,7 +6,7 @@ use mathlib.Core.List.{List, [], _∷_, map}
 use Rattle.tapa.specs.Address.{categoryOf, handlerOf, multi}
 use Rattle.tapa.specs.Codes.{handlerError, handlerBusy}
 use Rattle.tapa.specs.declared.Refusal.the-variants.{StrayResponse, WrongAsker, NothingToGiveUp, HoldsAQuestion}
-use Rattle.types.specs.Types.{own, common}
+use Rattle.known_types.specs.Types.{own, common}
 use Rattle.message.specs.Message.{readOf, partOf, codeOf}
 use Rattle.table.specs.declared.Row.{Row}
 use Rattle.rules.specs.declared.Outcome.{Outcome}

@@ -7,7 +7,7 @@ use mathlib.Core.List.{List, [], _∷_, map}
 use lib.Dec.{eqb}
 use Rattle.lists.proofs.Tests.{clash}
 use Rattle.tapa.specs.Address.{categoryOf, handlerOf, multi}
-use Rattle.types.specs.Types.{own, common}
+use Rattle.known_types.specs.Types.{own, common}
 use Rattle.message.specs.Message.{readOf, partOf, codeOf}
 use Rattle.table.specs.declared.Row.{Row}
 use Rattle.rules.specs.declared.Outcome.the-variants.{Passed, Answered, Swallowed, Given, Reset}

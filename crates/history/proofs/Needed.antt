@@ -7,7 +7,7 @@ use mathlib.Core.List.{List, [], _∷_}
 use native.Mathlib.Omega.{arith}
 use Rattle.lists.proofs.Tests.{clash}
 use Rattle.tapa.specs.Address.{categoryOf, handlerOf, multi}
-use Rattle.types.specs.Types.{own, common}
+use Rattle.known_types.specs.Types.{own, common}
 use Rattle.message.specs.Message.{readOf, partOf, codeOf}
 use Rattle.rules.specs.Judge.{late, reply, judgeResponse, busy, judgeCommand, judgeKind, judgeRead, judgeMessage, yields, judgeGiveUp, judgeReplaced}
 use Rattle.rules.specs.Apply.{place, answeredRows}

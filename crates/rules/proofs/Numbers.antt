@@ -10,7 +10,7 @@ use Rattle.lists.specs.Lists.{someOf}
 use Rattle.tapa.specs.Address.{categoryOf, handlerOf}
 use Rattle.tapa.specs.Numbers.{wordAt}
 use Rattle.tapa.specs.Said.{refused, says, passed, answered, swallowed, event, turned, given, reset}
-use Rattle.types.specs.Types.{known}
+use Rattle.known_types.specs.Types.{known}
 use Rattle.message.specs.declared.Head.{Head}
 use Rattle.message.specs.declared.Reading.the-variants.{Message}
 use Rattle.message.specs.declared.Coded.the-variants.{Code, Missing}

@@ -11,7 +11,7 @@ use Rattle.lists.specs.Lists.{checks, someOf, In}
 use Rattle.lists.proofs.Tests.{checks-are}
 use Rattle.tapa.specs.Address.{categoryOf, handlerOf}
 use Rattle.tapa.specs.Codes.{invalidDestination, handlerError, handlerBusy, mustBeOpened, unsupportedOperation, response, openHandler, eventHandler}
-use Rattle.types.specs.Types.{known}
+use Rattle.known_types.specs.Types.{known}
 use Rattle.tapa.specs.declared.Refusal.{Refusal}
 use Rattle.tapa.specs.declared.Refusal.the-variants.{NotInTable, ThreadAbove7, NoResponseCode, StrayResponse, WrongAsker, BufferTooSmall, EventCannotBeTaken, NothingToGiveUp, StandsInAWait, HoldsAQuestion}
 use Rattle.message.specs.declared.Head.{Head}

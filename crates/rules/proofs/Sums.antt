@@ -6,7 +6,7 @@ use mathlib.Core.List.{List, [], _∷_}
 use native.Mathlib.Omega.{arith}
 use lib.ListN.{length, take}
 use Rattle.tapa.specs.Address.{categoryOf, handlerOf, multi}
-use Rattle.types.specs.Types.{own, common}
+use Rattle.known_types.specs.Types.{own, common}
 use Rattle.tapa.specs.Codes.{mustBeOpened}
 use Rattle.tapa.specs.declared.Refusal.the-variants.{ThreadAbove7, StrayResponse}
 use Rattle.message.specs.declared.Head.{Head}

@@ -7,7 +7,7 @@ use lib.Dec.{eqb, ltb}
 use Rattle.lists.specs.Lists.{checks, someOf, first}
 use Rattle.tapa.specs.Address.{categoryOf, handlerOf, tillDriver}
 use Rattle.tapa.specs.Codes.{invalidDestination, handlerError, handlerBusy, mustBeOpened, unsupportedOperation, response, addEvent, openHandler, eventHandler}
-use Rattle.types.specs.Types.{known}
+use Rattle.known_types.specs.Types.{known}
 use Rattle.tapa.specs.declared.Refusal.the-variants.{NotInTable, ThreadAbove7, NoResponseCode, StrayResponse, WrongAsker, BufferTooSmall, EventCannotBeTaken, NothingToGiveUp, StandsInAWait, HoldsAQuestion}
 use Rattle.message.specs.declared.Head.{Head}
 use Rattle.message.specs.declared.Reading.{Reading}

@@ -89,7 +89,7 @@ pub fn rule_for(cells: &[u32; 16], count: usize, list: &[u64; 48], len: usize, h
     if !table::is_listed(cells, count, handler) {
         return Ruling::Back(tapa::INVALID_DESTINATION);
     }
-    if !types::is_known(tapa::category(head.destination), head.kind) {
+    if !known_types::is_known(tapa::category(head.destination), head.kind) {
         return Ruling::Back(tapa::UNSUPPORTED_OPERATION);
     }
     if is_closed(cells, count, handler, head.kind) {

@@ -12,7 +12,7 @@ use Rattle.lists.specs.Lists.{someOf, In}
 use Rattle.lists.proofs.Tests.{clash}
 use Rattle.lists.proofs.Members.{some-in}
 use Rattle.tapa.specs.Address.{categoryOf, handlerOf, multi}
-use Rattle.types.specs.Types.{own, common}
+use Rattle.known_types.specs.Types.{own, common}
 use Rattle.message.specs.Message.{readOf, partOf, codeOf, messageOf, responseOf}
 use Rattle.table.specs.declared.Row.{Row}
 use Rattle.places.specs.Places.{owing}

@@ -8,7 +8,7 @@ use native.Mathlib.Omega.{arith}
 use lib.ListN.{length}
 use Rattle.lists.specs.Lists.{In}
 use Rattle.tapa.specs.Address.{categoryOf, subAddressOf, handlerOf, multi}
-use Rattle.types.specs.Types.{own, common}
+use Rattle.known_types.specs.Types.{own, common}
 use Rattle.message.specs.Message.{readOf, partOf, codeOf, messageOf, responseOf}
 use Rattle.table.specs.declared.Row.{Row}
 use Rattle.table.specs.Table.{shaped, judgeTable}

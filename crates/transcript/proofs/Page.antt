@@ -3,7 +3,7 @@ use Prim.Native.Nat.{ℕ}
 use mathlib.Core.Path.{_≡_, refl}
 use mathlib.Core.List.{List, [], _∷_, _++_}
 use Rattle.tapa.specs.Address.{categoryOf, subAddressOf, handlerOf, multi}
-use Rattle.types.specs.Types.{common, own}
+use Rattle.known_types.specs.Types.{common, own}
 use Rattle.message.specs.Message.{readOf, partOf, codeOf, messageOf, responseOf}
 use Rattle.table.specs.Table.{shaped, judgeTable}
 use Rattle.rules.specs.Judge.{late, reply, judgeResponse, busy, judgeCommand, judgeKind, judgeRead, judgeMessage, yields, judgeGiveUp, judgeReplaced}

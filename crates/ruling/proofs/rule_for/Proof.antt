@@ -4,7 +4,7 @@ use mathlib.Core.Path.{_≡_, sym, ap, _∙_}
 use mathlib.Core.Bool.{Bool, true, false}
 use borrow.Author.Tests.{not-true, not-false}
 use Rattle.tapa.specs.Address.{categoryOf, handlerOf}
-use Rattle.types.specs.Types.{known}
+use Rattle.known_types.specs.Types.{known}
 use Rattle.table.specs.Table.{listed}
 use Rattle.rules.specs.View.{View}
 use Rattle.rules.specs.Judge.{closedTo, mayAsk, busy}

@@ -1,14 +1,14 @@
--- `types::is_own` meets its contract: on each stretch of types that the match leaves, the tables say one thing. Assumes nothing.
+-- `known_types::is_own` meets its contract: on each stretch of types that the match leaves, the tables say one thing. Assumes nothing.
 use mathlib.Core.Bool.{true, false}
 use mathlib.Core.Logic.{⊎-elim}
 use mathlib.Core.List.{[], _∷_}
 use mathlib.Core.Path.{refl}
 use native.Mathlib.Omega.{arith}
 use Rattle.tapa.specs.Address.{psam, card, userInterface, merchant, dataStore, communication, event}
-use Rattle.types.specs.Types.{own}
-use Rattle.types.proofs.Stretch.{stretch, stretch-but, at-key, none-own}
-use Rattle.types.proofs.is_own.Statement.{statement}
-use Rattle.types.proofs.is_own.Tie as tie
+use Rattle.known_types.specs.Types.{own}
+use Rattle.known_types.proofs.Stretch.{stretch, stretch-but, at-key, none-own}
+use Rattle.known_types.proofs.is_own.Statement.{statement}
+use Rattle.known_types.proofs.is_own.Tie as tie
 
 pub is-own-spec : {M : Type 1} → statement M
 unfolding own

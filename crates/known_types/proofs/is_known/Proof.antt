@@ -1,9 +1,9 @@
--- `types::is_known` meets its contract. Assumes nothing.
+-- `known_types::is_known` meets its contract. Assumes nothing.
 use mathlib.Core.Path.{sym}
 use borrow.Author.Tests.{le-leb, lt-leb}
 use borrow.Author.Needs.{needs}
-use Rattle.types.proofs.is_known.Statement.{statement}
-use Rattle.types.proofs.is_known.Tie as tie
+use Rattle.known_types.proofs.is_known.Statement.{statement}
+use Rattle.known_types.proofs.is_known.Tie as tie
 
 returns : tie.Need-returns
 returns c = sym (rw (sym (c .before .is-own .ensures), c .if1 .taken))

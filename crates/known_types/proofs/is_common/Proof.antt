@@ -1,11 +1,11 @@
--- `types::is_common` meets its contract. Assumes nothing.
+-- `known_types::is_common` meets its contract. Assumes nothing.
 use mathlib.Core.Bool.{true, false}
 use mathlib.Core.List.{[]}
 use native.Mathlib.Omega.{arith}
-use Rattle.types.specs.Types.{common}
-use Rattle.types.proofs.Stretch.{on-stretch}
-use Rattle.types.proofs.is_common.Statement.{statement}
-use Rattle.types.proofs.is_common.Tie as tie
+use Rattle.known_types.specs.Types.{common}
+use Rattle.known_types.proofs.Stretch.{on-stretch}
+use Rattle.known_types.proofs.is_common.Statement.{statement}
+use Rattle.known_types.proofs.is_common.Tie as tie
 
 pub is-common-spec : {M : Type 1} → statement M
 unfolding common

@@ -4,7 +4,7 @@
 // the rows as the tables print them. That the two agree on every byte is computed, stretch by
 // stretch: proofs/Stretch.antt.
 ghost use mathlib.Core.Path.{_≡_};
-ghost use Rattle.types.specs.Types.{common, own, known};
+ghost use Rattle.known_types.specs.Types.{common, own, known};
 
 // Whether a type is handler-independent (section 4.4): every category knows these.
 fn is_common(kind: u8) -> bool

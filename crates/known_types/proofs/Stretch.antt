@@ -9,7 +9,7 @@ use borrow.Author.Tests.{eqb-true, eqb-false, ne-eqb}
 use mir.Val.{hasKey}
 use types.Run.{OneOf, hit}
 use Rattle.tapa.specs.Address.{psam, card, userInterface, merchant, dataStore, communication, event}
-use Rattle.types.specs.Types.{own}
+use Rattle.known_types.specs.Types.{own}
 
 -- the test p passes on the n numbers from lo on
 abbrev pub all : (ℕ → Bool) → ℕ → ℕ → Bool
