@@ -72,20 +72,23 @@ pub fn with_row(rows: Rows, row: Row) -> Rows
 }
 
 // ---- look-up by handler
+//
+// A look-up walks all rows and has no early way out: so the compiler can compare several cells at once.
 
 pub fn is_listed(cells: &[u32; 16], count: usize, handler: u16) -> bool
     requires { ⌜ count ≤ 16 ⌝ }
     ensures { λ r. ⌜ r ≡ listed handler (rowsOf (now (cells .entry)) count) ⌝ }
 {
     let wanted = handler as u32;
-    let mut i = count;
-    while 0 < i {
-        i -= 1;
+    let mut found = false;
+    let mut i = 0;
+    while i < count {
         if cells[i] / 2 == wanted {
-            return true;
+            found = true;
         }
+        i += 1;
     }
-    false
+    found
 }
 
 pub fn is_open(cells: &[u32; 16], count: usize, handler: u16) -> bool
@@ -93,14 +96,15 @@ pub fn is_open(cells: &[u32; 16], count: usize, handler: u16) -> bool
     ensures { λ r. ⌜ r ≡ openedAt handler (rowsOf (now (cells .entry)) count) ⌝ }
 {
     let wanted = handler as u32 * 2 + 1;
-    let mut i = count;
-    while 0 < i {
-        i -= 1;
+    let mut found = false;
+    let mut i = 0;
+    while i < count {
         if cells[i] == wanted {
-            return true;
+            found = true;
         }
+        i += 1;
     }
-    false
+    found
 }
 
 // Marks a handler's row as open or closed. A handler that has no row changes nothing.
