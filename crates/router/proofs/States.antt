@@ -19,7 +19,7 @@ use Rattle.routing.specs.declared.Step.{Step}
 use Rattle.ruling.specs.Ruling.{heldView}
 use Rattle.routing.specs.Steps.{Writing, Moving, Stepping}
 use Rattle.router.specs.declared.Router.{Router}
-use Rattle.router.specs.Router.{viewOf, Lawful, Routing, Replacing}
+use Rattle.router.specs.Router.{viewOf, Lawful, Routing, Replacing, stateOf, routedTo}
 
 views : (v w : View) → v .rows ≡ w .rows → v .places ≡ w .places → v ≡ w
 views v w p q = go (v .rows) (w .rows) (v .places) (w .places) p q
@@ -35,7 +35,7 @@ module _ (r : Router) (g : Lawful r) (room : ℕ) (call : Call) where
   pub replaces : (c l : List ℕ) (s : Step)
       → Moving (judge (viewOf r) room call) (viewOf r) c (r .count) l s
       → Replacing (judge (viewOf r) room call) r
-      (record { outcome = s .outcome; next = record { list = l; len = s .len; cells = c; count = r .count } })
+      (routedTo s c (r .count) l)
   replaces c l s x =
       let o : Outcome = judge (viewOf r) room call in
       let e : heldView c (r .count) l (s .len) ≡ applied o (viewOf r) =
@@ -55,7 +55,7 @@ module _ (r : Router) (g : Lawful r) (room : ℕ) (call : Call) where
   pub routes : (c l before after : List ℕ) (s : Step)
       → Stepping (judge (viewOf r) room call) (viewOf r) c (r .count) l before after s
       → Routing (judge (viewOf r) room call) r before after
-      (record { outcome = s .outcome; next = record { list = l; len = s .len; cells = c; count = r .count } })
+      (routedTo s c (r .count) l)
   routes c l before after s x =
       let y = replaces c l s (x .moving) in
       record { outcome = y .outcome; view = y .view; law = y .law; reply = x .reply }
@@ -64,19 +64,18 @@ module _ (r : Router) (g : Lawful r) (room : ℕ) (call : Call) where
 pub gives-up : (r : Router) → Lawful r → (t a : ℕ) (l before after : List ℕ) (s : Step)
     → Writing (judgeGiveUp (viewOf r) (length before) t a) (viewOf r .places) l before after s
     → Routing (judgeGiveUp (viewOf r) (length before) t a) r before after
-    (record { outcome = s .outcome; next = record { list = l; len = s .len; cells = r .cells; count = r .count } })
+    (routedTo s (r .cells) (r .count) l)
 gives-up r g t a l before after s x =
     routes r g (length before) (giveUp t a) (r .cells) l before after s
     (record { moving = record { placing = x .placing; table = record { holds = give-up-rows (viewOf r) (length before) t a; law = g .column } }; reply = x .reply })
 
 -- ---- a lawful state is known by its view
 
-together : (l l′ : List ℕ) (n n′ : ℕ) (c c′ : List ℕ) (k k′ : ℕ) → l ≡ l′ → n ≡ n′ → c ≡ c′ → k ≡ k′
-    → _≡_ {A = Router} (record { list = l; len = n; cells = c; count = k }) (record { list = l′; len = n′; cells = c′; count = k′ })
-together l l′ n n′ c c′ k k′ e1 e2 e3 e4 = cc
+together : (c c′ : List ℕ) (n n′ : ℕ) (l l′ : List ℕ) (k k′ : ℕ) → c ≡ c′ → n ≡ n′ → l ≡ l′ → k ≡ k′ → stateOf c n l k ≡ stateOf c′ n′ l′ k′
+together c c′ n n′ l l′ k k′ e1 e2 e3 e4 = cc
 
 pub determined : (r s : Router) → Lawful r → Lawful s → viewOf r ≡ viewOf s → r ≡ s
 determined r s g h e =
     let p = held.determined (r .list) (s .list) (r .len) (s .len) (g .held) (h .held) (ap (λ (v : View). v .places) e) in
     let q = table.determined (r .cells) (s .cells) (r .count) (s .count) (g .column) (h .column) (ap (λ (v : View). v .rows) e) in
-    together (r .list) (s .list) (r .len) (s .len) (r .cells) (s .cells) (r .count) (s .count) (p .1) (p .0) (q .1) (q .0)
+    together (r .cells) (s .cells) (r .count) (s .count) (r .list) (s .list) (r .len) (s .len) (q .1) (q .0) (p .1) (p .0)

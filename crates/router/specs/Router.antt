@@ -11,6 +11,7 @@ use Rattle.rules.specs.Judge.{judgeMessage, judgeGiveUp, judgeReplaced}
 use Rattle.rules.specs.Apply.{applied, written}
 use Rattle.rules.specs.Conduct.{Conduct}
 use Rattle.ruling.specs.Ruling.{heldView}
+use Rattle.routing.specs.declared.Step.{Step}
 use Rattle.router.specs.declared.Router.{Router}
 use Rattle.router.specs.declared.Routed.{Routed}
 
@@ -48,3 +49,12 @@ GivesUp r t a before after out = Routing (judgeGiveUp (viewOf r) (length before)
 
 abbrev pub Replaces : Router → (address : ℕ) → Routed → Type 0
 Replaces r a out = Replacing (judgeReplaced (viewOf r) a) r out
+
+-- ---- the same with the arrays lent: a state is its parts
+
+abbrev pub stateOf : (cells : List ℕ) → (count : ℕ) → (list : List ℕ) → (len : ℕ) → Router
+stateOf c n l k = record { list = l; len = k; cells = c; count = n }
+
+-- what a call in place answers, with what the arrays then hold
+abbrev pub routedTo : Step → (cells : List ℕ) → (count : ℕ) → (list : List ℕ) → Routed
+routedTo s c n l = record { outcome = s .outcome; next = stateOf c n l (s .len) }

@@ -6,11 +6,12 @@ use Rattle.table.specs.declared.Rows.{Rows}
 use Rattle.table.specs.declared.SetUp.{SetUp}
 use Rattle.table.specs.Table.{noRows, setUpWith, setUpOf}
 use Rattle.router.specs.declared.Router.{Router}
+use Rattle.router.specs.Router.{stateOf}
 use Rattle.start.specs.declared.Started.{Started}
 
 -- a router over rows by value
 abbrev pub freshOver : Rows → Router
-freshOver t = record { list = replicate 48 0; len = 0; cells = t .cells; count = t .count }
+freshOver t = stateOf (t .cells) (t .count) (replicate 48 0) 0
 
 -- over no rows: what a refused table leaves
 abbrev pub blank : Router

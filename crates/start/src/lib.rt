@@ -8,7 +8,7 @@ use table::Rows;
 use table::SetUp;
 ghost use mathlib.Core.Path.{_≡_};
 ghost use Rattle.table.specs.Table.{Held, Settled};
-ghost use Rattle.start.specs.Start.{blank as blankRouter, startFrom, startWith};
+ghost use Rattle.start.specs.Start.{freshOver, blank as blankRouter, startFrom, startWith};
 
 // What a start answers, and the router; a refused table leaves a blank one.
 pub struct Started {
@@ -16,16 +16,20 @@ pub struct Started {
     pub router: Router,
 }
 
+// A router over rows, before its first call: no place is in use.
+fn fresh_over(rows: Rows) -> Router
+    ensures { λ r. ⌜ r ≡ freshOver rows ⌝ }
+{
+    let cells = rows.cells;
+    let list = [0; 48];
+    router::state_of(cells, rows.count, list, 0)
+}
+
 // The router that a refused table leaves: over no rows.
 pub fn blank() -> Router
     ensures { λ r. ⌜ r ≡ blankRouter ⌝ }
 {
-    Router {
-        list: [0; 48],
-        len: 0,
-        cells: [0; 16],
-        count: 0,
-    }
+    fresh_over(table::no_rows())
 }
 
 // A fresh router over a table that was set up.
@@ -35,13 +39,7 @@ pub fn start_from(set: SetUp) -> Started
 {
     let answer = set.answer;
     let rows = set.rows;
-    let cells = rows.cells;
-    let router = Router {
-        list: [0; 48],
-        len: 0,
-        cells,
-        count: rows.count,
-    };
+    let router = fresh_over(rows);
     Started { answer, router }
 }
 
