@@ -1,4 +1,3 @@
 pub mod Filling
 pub mod Text
 pub mod Once
-pub mod Next

@@ -5,8 +5,9 @@ use mathlib.Core.List.{List}
 use Rattle.router.proofs.States.{determined}
 use Rattle.text.specs.Text.{Pen, pen}
 use Rattle.run.specs.declared.Session.{Session}
+use Rattle.run.specs.State.{Sight, sightOf}
 use Rattle.pages.specs.declared.Page.{Page}
-use Rattle.pages.specs.Pages.{Sight, sightOf, Paged}
+use Rattle.pages.specs.Pages.{Paged}
 
 pub one-fill-page : (s : List ℕ) (w : Session) (old new new′ : List ℕ) (p p′ : Page) → Paged s w old new p → Paged s w old new′ p′
     → (p ≡ p′) × (new ≡ new′)

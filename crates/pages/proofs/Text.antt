@@ -16,9 +16,9 @@ use Rattle.text.proofs.Laws.{puts-fit, puts-length}
 use Rattle.run.specs.declared.Item.{Item}
 use Rattle.run.specs.declared.Session.{Session}
 use Rattle.run.specs.Start.{Begins}
-use Rattle.transcript.specs.Prescribed.{lineOf, prescribed}
+use Rattle.transcript.specs.Prescribed.{lineOf, prescribed, linesLeft}
 use Rattle.pages.specs.declared.Page.{Page}
-use Rattle.pages.specs.Pages.{linesLeft, fitting, full, Paged}
+use Rattle.pages.specs.Pages.{fitting, full, Paged}
 
 -- ---- one page
 

@@ -2,49 +2,17 @@
 use Prim.Native.Nat.{ℕ, zero, suc, _-_, _≤_}
 use mathlib.Core.Path.{_≡_}
 use mathlib.Core.Bool.{Bool, true, cond}
-use mathlib.Core.List.{List, [], _∷_, map}
+use mathlib.Core.List.{List, [], _∷_}
 use lib.Dec.{ltb}
 use lib.ListN.{length, take, drop}
 use Rattle.lists.specs.Lists.{joined}
-use Rattle.rules.specs.View.{View}
-use Rattle.router.specs.Router.{viewOf, Lawful}
 use Rattle.text.specs.Text.{pen, puts}
-use Rattle.run.specs.declared.Item.{Item}
-use Rattle.run.specs.declared.Cursor.{Cursor}
 use Rattle.run.specs.declared.Session.{Session}
-use Rattle.run.specs.State.{itemsLeft, Sound, nextOf}
-use Rattle.transcript.specs.Prescribed.{lineOf}
+use Rattle.run.specs.State.{Ready, Sight, sightOf, turned}
+use Rattle.transcript.specs.Prescribed.{linesLeft}
 use Rattle.pages.specs.declared.Page.{Page}
 
--- the law of every session that `run::begin` or `fill_page` hands back
-pub record Ready (w : Session) : Type 0 where
-  pub law : Lawful (w .router)
-  pub sound : Sound (w .cursor)
-
--- ---- what is left to print
-
--- a session as it means
-pub record Sight : Type 0 where
-  pub view : View
-  pub cursor : Cursor
-
-abbrev pub sightOf : Session → Sight
-sightOf w = record { view = viewOf (w .router); cursor = w .cursor }
-
-abbrev pub leftIn : List ℕ → Sight → List (List ℕ)
-leftIn s x = map lineOf (itemsLeft s (x .view) (x .cursor))
-
-abbrev pub linesLeft : List ℕ → Session → List (List ℕ)
-linesLeft s w = leftIn s (sightOf w)
-
--- the item that is handed out
-abbrev pub itemIn : List ℕ → Session → Item
-itemIn s w = nextOf s (viewOf (w .router)) (w .cursor) .item
-
--- after n items
-abbrev pub turned : List ℕ → Sight → Sight
-turned s x = record { view = nextOf s (x .view) (x .cursor) .view; cursor = nextOf s (x .view) (x .cursor) .cursor }
-
+-- a session as it means, after n items
 abbrev pub after : ℕ → List ℕ → Sight → Sight
 after zero s x = x
 after (suc n) s x = turned s (after n s x)

@@ -6,13 +6,13 @@
 // them once, in order.
 
 // Prints the lines of one input; false where they cannot be written.
-fn show(program: &[u8], input: &[u8]) -> bool {
-    let mut page = io::large_buffer();
+fn show(program: &[u8], input: &[u8], page: &mut [u8; 65536]) -> bool {
     let mut session = run::begin(input);
     loop {
-        let filled = pages::fill_page(session, input, &mut page);
+        let filled = pages::fill_page(session, input, page);
         let used = filled.used;
-        if !inputs::write(program, &page[..used]) {
+        let all = &page[..];
+        if !inputs::write(program, &all[..used]) {
             return false;
         }
         if !filled.more {
@@ -24,22 +24,24 @@ fn show(program: &[u8], input: &[u8]) -> bool {
 
 // Reads one byte more than a session file may have, so that a longer one is seen. Of a file that
 // cannot be read nothing is printed; `inputs` has said why.
-fn show_input(program: &[u8], i: usize) -> bool {
-    let mut input = [0u8; 65537];
+fn show_input(program: &[u8], i: usize, input: &mut [u8], page: &mut [u8; 65536]) -> bool {
     let waits = b"waiting for a session file on standard input (Ctrl-D ends it)";
-    let got = inputs::read(program, waits, i, &mut input);
+    let got = inputs::read(program, waits, i, input);
     if !got.whole {
         return true;
     }
     let n = got.length;
-    show(program, &input[..n])
+    show(program, &input[..n], page)
 }
 
-// Prints the lines of standard input or, where arguments name files, of each file in turn.
+// Prints the lines of standard input or, where arguments name files, of each file in turn. The
+// buffers are made once, and lent.
 pub fn show_inputs(program: &[u8]) {
     let count = os::arg_count();
+    let mut input = [0u8; 65537];
+    let mut page = [0u8; 65536];
     let mut i = inputs::first_name();
-    while show_input(program, i) {
+    while show_input(program, i, &mut input, &mut page) {
         i += 1;
         if count <= i {
             return;

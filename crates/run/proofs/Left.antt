@@ -1,5 +1,5 @@
 -- A turn takes one item away from those that are left. Assumes nothing.
-use Prim.Native.Nat.{ℕ}
+use Prim.Native.Nat.{ℕ, _<_}
 use native.Mathlib.Omega.{arith}
 use mathlib.Core.Path.{_≡_, refl, sym, ap, _∙_}
 use mathlib.Core.Bool.{true, false}
@@ -8,6 +8,7 @@ use lib.Dec.{ltb}
 use lib.ListN.{length}
 use borrow.Table.Steps.{cases}
 use Rattle.rules.specs.View.{View}
+use Rattle.router.specs.Router.{viewOf}
 use Rattle.fields.specs.declared.NextStep.{NextStep}
 use Rattle.fields.specs.declared.NextStep.the-variants as next
 use Rattle.fields.specs.Places.{stepAt, stepsBy}
@@ -19,7 +20,9 @@ use Rattle.run.specs.declared.Item.the-variants.{Came, Over, Broken, Ref
 use Rattle.run.specs.declared.Ahead.{Ahead}
 use Rattle.run.specs.declared.Ahead.the-variants as ahead
 use Rattle.run.specs.declared.Cursor.{Cursor}
-use Rattle.run.specs.State.{itemsFrom, followed, handsOut, leftBy, itemsLeft, Shown, aheadIn, aheadBy, aheadOf, nextBy, nextOf}
+use Rattle.run.specs.declared.Session.{Session}
+use Rattle.run.specs.declared.Turn.{Turn}
+use Rattle.run.specs.State.{itemsFrom, followed, handsOut, leftBy, itemsLeft, sightOf, itemsIn, Shown, shown, aheadIn, aheadBy, aheadOf, nextBy, nextOf, turned, Turns}
 
 -- an item, and what is left after it
 abbrev taken : List ℕ → Shown → List Item
@@ -72,11 +75,26 @@ nothing-by s v c (ahead.Last i) h = refl
 
 -- what a turn shows: the first item that is left, or that nothing is left
 module _ (s : List ℕ) (v : View) (c : Cursor) (x : Shown) (e : x ≡ nextOf s v c) where
-  pub some-next : handsOut (x .item) ≡ true → itemsLeft s v c ≡ x .item ∷ itemsLeft s (x .view) (x .cursor)
+  some-next : handsOut (x .item) ≡ true → itemsLeft s v c ≡ x .item ∷ itemsLeft s (x .view) (x .cursor)
   some-next h = left-next s v c ∙ (sym (ap (taken s) e) ∙ follows (x .item) (itemsLeft s (x .view) (x .cursor)) h)
 
-  pub none-next : handsOut (x .item) ≡ false → (itemsLeft s v c ≡ []) × (itemsLeft s (x .view) (x .cursor) ≡ [])
+  none-next : handsOut (x .item) ≡ false → (itemsLeft s v c ≡ []) × (itemsLeft s (x .view) (x .cursor) ≡ [])
   none-next h = (
     left-next s v c ∙ (sym (ap (taken s) e) ∙ ends (x .item) (itemsLeft s (x .view) (x .cursor)) h),
     ap (λ (y : Shown). itemsLeft s (y .view) (y .cursor)) e ∙ nothing-by s v c (aheadOf s c) (ap (λ (y : Shown). handsOut (y .item)) (sym e) ∙ h),
   )
+
+-- ---- a turn of a session, from its contract
+
+module _ (s : List ℕ) (w : Session) (t : Turn) (g : Turns s w t) where
+  pub first-left : t .more ≡ true → itemsIn s w ≡ t .item ∷ itemsIn s (t .next)
+  first-left y = some-next s (viewOf (w .router)) (w .cursor) (shown t) (g .same) (sym (g .more) ∙ y)
+
+  pub fewer-left : t .more ≡ true → length (itemsIn s (t .next)) < length (itemsIn s w)
+  fewer-left y = omega (arith, ap length (first-left y))
+
+  pub none-left : t .more ≡ false → (itemsIn s w ≡ []) × (itemsIn s (t .next) ≡ [])
+  none-left y = none-next s (viewOf (w .router)) (w .cursor) (shown t) (g .same) (sym (g .more) ∙ y)
+
+  pub its-sight : sightOf (t .next) ≡ turned s (sightOf w)
+  its-sight = λ i. record { view = g .same i .view; cursor = g .same i .cursor }

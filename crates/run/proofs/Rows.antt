@@ -33,7 +33,7 @@ use Rattle.run.specs.declared.Session.{Session}
 use Rattle.run.specs.declared.Heading.{Heading}
 use Rattle.run.specs.declared.Item.{Item}
 use Rattle.run.specs.Run.{itemsOf, checkedItems, scriptItems, runOf}
-use Rattle.run.specs.State.{noTally, itemsFrom, itemsLeft, SettledIn, Sound}
+use Rattle.run.specs.State.{noTally, itemsFrom, itemsLeft, SettledIn, Sound, Ready, itemsIn}
 use Rattle.run.specs.Start.{headingBy, headingOf, checkedStage, stageOf, cursorAt, startedBy, startOf, Begins}
 use Rattle.run.proofs.Counts.{same-items}
 
@@ -86,9 +86,8 @@ starts x d g e f =
 -- ---- the state has these items, and keeps the law
 
 record Whole (s : List ℕ) (b : Session) (l : List Item) : Type 0 where
-  pub left : itemsLeft s (viewOf (b .router)) (b .cursor) ≡ l
-  pub law : Lawful (b .router)
-  pub sound : Sound (b .cursor)
+  pub left : itemsIn s b ≡ l
+  pub ready : Ready b
 
 sound-at : (at n : ℕ) (g : Stage) → at ≤ 65536 → n ≤ at + 1 → SettledIn g → Sound (cursorAt at n g)
 sound-at at n g a b c = record {
@@ -146,11 +145,16 @@ module _ (s : List ℕ) (fit : length s ≤ 65536) where
       subst (λ (t : Rows). Whole s (startedBy (headingBy t (n + 1) (at + 6) m)) (scriptItems (r ∷ reverse zs) m)) (sym (read-next zs r))
       (subst (λ (k : ℕ). Whole s (startedBy (headingBy (rowsRead (zs ++ (r ∷ []))) (n + 1) k m)) (scriptItems (r ∷ reverse zs) m)) (sym (b .0))
       (subst (λ (ys : List table.Row). Whole s (startedBy (headingBy (rowsRead (zs ++ (r ∷ []))) (n + 1) nx m)) (scriptItems ys m)) (reverse-append zs (r ∷ [])) g))
-  rows-in zs n at Torn b a c f = record { left = refl; law = start-law (rowsRead zs) (read-held zs); sound = sound-at at n (stageOf true n (judgeRows (rowsRead zs))) (omega arith) c (omega arith) }
+  rows-in zs n at Torn b a c f = record {
+    left = refl;
+    ready = record { law = start-law (rowsRead zs) (read-held zs); sound = sound-at at n (stageOf true n (judgeRows (rowsRead zs))) (omega arith) c (omega arith) };
+  }
   rows-in zs n at Over b a c f = record {
     left = over-left zs at n;
-    law = start-law (rowsRead zs) (read-held zs);
-    sound = sound-at at n (checkedStage (judgeRows (rowsRead zs))) (omega arith) c (small-checked (judgeRows (rowsRead zs)));
+    ready = record {
+      law = start-law (rowsRead zs) (read-held zs);
+      sound = sound-at at n (checkedStage (judgeRows (rowsRead zs))) (omega arith) c (small-checked (judgeRows (rowsRead zs)));
+    };
   }
 
   rows-run : (f : ℕ) (zs : List table.Row) (n at : ℕ)
@@ -169,15 +173,14 @@ started : (s : List ℕ) → Whole s (startOf s) (runOf s)
 unfolding itemsLeft startOf headingOf runOf scriptAt
 started s =
     cases (ltb 65536 (length s))
-    (λ e. rw e (record { left = refl; law = fresh-lawful noRows none-held none-proper; sound = sound-at 0 1 (Settled TooLong) (omega arith) (omega arith) tt }))
+    (λ e. rw e (record { left = refl; ready = record { law = fresh-lawful noRows none-held none-proper; sound = sound-at 0 1 (Settled TooLong) (omega arith) (omega arith) tt } }))
     (λ e. rw e (rows-run s (ltb-false 65536 (length s) e) (suc (length s)) [] 1 0 (omega arith) (omega arith) (omega arith)))
 
 pub begun : (s : List ℕ) (b : Session) → b ≡ startOf s → Begins s b
 begun s b e = record {
   same = e;
   all = ap (λ (x : Session). itemsLeft s (viewOf (x .router)) (x .cursor)) e ∙ started s .left;
-  law = subst (λ (x : Session). Lawful (x .router)) (sym e) (started s .law);
-  sound = subst (λ (x : Session). Sound (x .cursor)) (sym e) (started s .sound);
+  ready = subst Ready (sym e) (started s .ready);
 }
 
 -- the two returns of `begin`

@@ -10,15 +10,15 @@ use borrow.Author.Tests.{ltb-false, lt-ltb, le-ltb}
 use Rattle.lists.specs.Lists.{count, someOf}
 use Rattle.tapa.specs.Address.{handlerOf}
 use Rattle.table.specs.Table.{listed}
+use Rattle.place.specs.declared.Place.{Place}
 use Rattle.places.specs.Places.{isOpen, isOwed, standsIn}
 use Rattle.places.proofs.Points.{len}
 use Rattle.rules.specs.View.{View}
 use Rattle.rules.specs.Judge.{judgeReplaced}
 use Rattle.rules.specs.declared.Outcome.{Outcome}
 use Rattle.rules.specs.declared.Outcome.the-variants.{Passed, Answered, Swallowed, Event, Turned, Given, Reset, Refused}
-use Rattle.router.specs.declared.Router.{Router}
-use Rattle.router.specs.declared.Routed.{Routed}
-use Rattle.router.specs.Router.{viewOf, Lawful, Routing, Replacing}
+use Rattle.routing.specs.declared.Step as routing
+use Rattle.router.specs.Router.{viewOf, Routing, Replacing, routedTo}
 use Rattle.router.proofs.Counts.{open-or-owed}
 use Rattle.fields.specs.declared.NextStep.{NextStep}
 use Rattle.fields.specs.declared.NextStep.the-variants as next
@@ -34,9 +34,11 @@ use Rattle.run.specs.declared.Stage.the-variants.{Steps as steps, Settle
 use Rattle.run.specs.declared.Cursor.{Cursor}
 use Rattle.run.specs.declared.Ahead.{Ahead}
 use Rattle.run.specs.declared.Ahead.the-variants as ahead
+use Rattle.run.specs.declared.Session.{Session}
 use Rattle.run.specs.declared.Turn.{Turn}
+use Rattle.run.specs.declared.Went.{Went}
 use Rattle.run.specs.Run.{noReply, replyOf, replyIn, outcomeOf}
-use Rattle.run.specs.State.{tallied, totalsOf, Small, Settles, SettledIn, Sound, Shown, wentBy, went, closed, ended, endedIn, aheadIn, aheadBy, aheadOf, nextBy, Stepped, Turns}
+use Rattle.run.specs.State.{tallied, totalsOf, handsOut, Small, Settles, SettledIn, Sound, Ready, Shown, wentBy, went, closed, ended, endedIn, aheadIn, aheadBy, aheadOf, nextBy, Stepped, Turns, turnOf, cameTo}
 
 -- ---- a step
 
@@ -48,16 +50,20 @@ pub goes : (c : Cursor) (o : Outcome) (nx : ℕ) (y : Tally) → y ≡ tallied o
     → _≡_ {A = Cursor} (record { at = nx; number = c .number + 1; step = c .step + 1; tally = y; stage = steps }) (wentBy c o nx)
 goes c o nx y e = λ i. record { at = nx; number = c .number + 1; step = c .step + 1; tally = e i; stage = steps }
 
-module _ (r : Router) (c : Cursor) (st : Step) (nx : ℕ) (out : Routed) (reply : List ℕ) (after : Cursor) (a : after ≡ wentBy c (out .outcome) nx) where
-  stepped : Replacing (outcomeOf (viewOf r) st) r out → reply ≡ replyOf (outcomeOf (viewOf r) st)
-      → Stepped r c st nx (record { item = Came (c .step) (out .outcome); reply = reply; cursor = after; router = out .next })
-  stepped x e =
-      let k : after ≡ wentBy c (outcomeOf (viewOf r) st) nx = a ∙ ap (λ (o : Outcome). wentBy c o nx) (x .outcome) in
-      record { same = λ i. record { item = Came (c .step) (x .outcome i); reply = e i; cursor = k i; view = x .view i }; law = x .law }
+-- after a call of the router, in place
+module _ (w : Session) (st : Step) (nx : ℕ) (d : routing.Step) (reply : List ℕ) (x : Went) (a : x ≡ cameTo (w .cursor) d reply nx) (c : List ℕ) (n : ℕ) (l : List ℕ) where
+  stepped : Replacing (outcomeOf (viewOf (w .router)) st) (w .router) (routedTo d c n l) → reply ≡ replyOf (outcomeOf (viewOf (w .router)) st)
+      → Stepped w st nx (turnOf x c n l)
+  stepped y e =
+      rw a
+      (record {
+        same = λ i. record { item = Came (w .cursor .step) (y .outcome i); reply = e i; cursor = wentBy (w .cursor) (y .outcome i) nx; view = y .view i };
+        more = refl;
+        law = y .law;
+      })
 
-  pub stepped-reply : Routing (outcomeOf (viewOf r) st) r noReply reply out
-      → Stepped r c st nx (record { item = Came (c .step) (out .outcome); reply = reply; cursor = after; router = out .next })
-  stepped-reply x = stepped (record { outcome = x .outcome; view = x .view; law = x .law }) (x .reply)
+  pub stepped-reply : Routing (outcomeOf (viewOf (w .router)) st) (w .router) noReply reply (routedTo d c n l) → Stepped w st nx (turnOf x c n l)
+  stepped-reply y = stepped (record { outcome = y .outcome; view = y .view; law = y .law }) (y .reply)
 
 -- a replaced call has no reply
 no-reply : (v : View) (a : ℕ) → noReply ≡ replyOf (outcomeOf v (replaced a))
@@ -67,15 +73,15 @@ no-reply v a =
     (λ e. rw e (cases (someOf (standsIn (handlerOf a)) (v .places)) (λ f. rw f) (λ f. rw f)))
     (λ e. rw e)
 
-pub stepped-replaced : (r : Router) (c : Cursor) (a nx : ℕ) (out : Routed) (after : Cursor) → after ≡ wentBy c (out .outcome) nx
-    → Replacing (outcomeOf (viewOf r) (replaced a)) r out
-    → Stepped r c (replaced a) nx (record { item = Came (c .step) (out .outcome); reply = noReply; cursor = after; router = out .next })
-stepped-replaced r c a nx out after e x = stepped r c (replaced a) nx out noReply after e x (no-reply (viewOf r) a)
+pub stepped-replaced : (w : Session) (a nx : ℕ) (d : routing.Step) (x : Went) → x ≡ cameTo (w .cursor) d noReply nx → (c : List ℕ) (n : ℕ) (l : List ℕ)
+    → Replacing (outcomeOf (viewOf (w .router)) (replaced a)) (w .router) (routedTo d c n l)
+    → Stepped w (replaced a) nx (turnOf x c n l)
+stepped-replaced w a nx d x e c n l y = stepped w (replaced a) nx d noReply x e c n l y (no-reply (viewOf (w .router)) a)
 
--- what the router says is under way
-pub sums : (n : Tally) (v : View) (waiting owing : ℕ) → waiting ≡ count isOpen (v .places) → owing ≡ count isOwed (v .places)
-    → _≡_ {A = Totals} (record { accepted = n .accepted; answered = n .answered; given = n .given; waiting = waiting; owing = owing }) (totalsOf n v)
-sums n v waiting owing a b =
+-- what the places say is under way
+pub sums : (n : Tally) (ps : List Place) (waiting owing : ℕ) → waiting ≡ count isOpen ps → owing ≡ count isOwed ps
+    → _≡_ {A = Totals} (record { accepted = n .accepted; answered = n .answered; given = n .given; waiting = waiting; owing = owing }) (totalsOf n ps)
+sums n ps waiting owing a b =
     λ i. record { accepted = n .accepted; answered = n .answered; given = n .given; waiting = a i; owing = b i }
 
 -- ---- the law
@@ -117,14 +123,14 @@ sound-closed c h = record {
 }
 
 -- a router never has more than 48 places
-pub small-totals : (r : Router) (c : Cursor) → Lawful r → Sound c → Small (Over (totalsOf (c .tally) (viewOf r)))
-small-totals r c g h =
-    let n = open-or-owed (viewOf r .places) in
-    let m = len (r .list) (r .len) in
-    let k = g .held .few in (
-      omega (arith, h .accepted, h .small),
-      omega (arith, h .answered, h .small),
-      omega (arith, h .given, h .small),
+pub small-totals : (w : Session) → Ready w → Small (Over (totalsOf (w .cursor .tally) (viewOf (w .router) .places)))
+small-totals w h =
+    let n = open-or-owed (viewOf (w .router) .places) in
+    let m = len (w .router .list) (w .router .len) in
+    let k = h .law .held .few in (
+      omega (arith, h .sound .accepted, h .sound .small),
+      omega (arith, h .sound .answered, h .sound .small),
+      omega (arith, h .sound .given, h .sound .small),
       omega (arith, n, m, k),
       omega (arith, n, m, k),
     )
@@ -157,33 +163,44 @@ inside s c = inside-by s c (c .stage) refl
 
 -- ---- the arms of `next`
 
-module _ (s : List ℕ) (r : Router) (c : Cursor) (h : Sound c) (i : Ahead) (e : aheadOf s c ≡ i) where
-  pub inside-of : Inside s c i
-  inside-of = subst (λ (x : Ahead). Inside s c x) e (inside s c)
+module _ (s : List ℕ) (w : Session) (h : Ready w) (i : Ahead) (e : aheadOf s (w .cursor) ≡ i) where
+  pub inside-of : Inside s (w .cursor) i
+  inside-of = subst (λ (x : Ahead). Inside s (w .cursor) x) e (inside s (w .cursor))
 
   pub on-step : (st : Step) (nx : ℕ) (t : Turn)
-      → nextBy s (viewOf r) c i ≡ went (viewOf r) c st nx
-      → c .at + 3 ≤ nx
+      → nextBy s (viewOf (w .router)) (w .cursor) i ≡ went (viewOf (w .router)) (w .cursor) st nx
+      → w .cursor .at + 3 ≤ nx
       → nx ≤ 65536
-      → Stepped r c st nx t
-      → Turns s r c t
-  on-step st nx t n a b p = record {
-    same = p .same ∙ sym (ap (nextBy s (viewOf r) c) e ∙ n);
-    law = p .law;
-    sound = subst (λ (x : Cursor). Sound x) (sym (ap (λ (x : Shown). x .cursor) (p .same))) (sound-went c (outcomeOf (viewOf r) st) nx h a b);
-    little = subst (λ (x : Item). Small x) (sym (ap (λ (x : Shown). x .item) (p .same))) (omega (arith, h .steps, h .small));
-    answer = ap (λ (x : Shown). x .reply) (p .same) ∙ sym (ap (λ (x : Shown). replyIn (x .item)) (p .same));
-  }
+      → Stepped w st nx t
+      → Turns s w t
+  on-step st nx t n a b p =
+      let o : Outcome = outcomeOf (viewOf (w .router)) st in
+      record {
+        same = p .same ∙ sym (ap (nextBy s (viewOf (w .router)) (w .cursor)) e ∙ n);
+        more = p .more ∙ sym (ap (λ (x : Shown). handsOut (x .item)) (p .same));
+        ready = record {
+          law = p .law;
+          sound = subst (λ (x : Cursor). Sound x) (sym (ap (λ (x : Shown). x .cursor) (p .same))) (sound-went (w .cursor) o nx (h .sound) a b);
+        };
+        little = subst (λ (x : Item). Small x) (sym (ap (λ (x : Shown). x .item) (p .same))) (omega (arith, h .sound .steps, h .sound .small));
+        answer = ap (λ (x : Shown). x .reply) (p .same) ∙ sym (ap (λ (x : Shown). replyIn (x .item)) (p .same));
+      }
 
   pub on-last : (x : Item) (t : Turn)
-      → nextBy s (viewOf r) c i ≡ ended (viewOf r) c x
-      → Lawful r
+      → nextBy s (viewOf (w .router)) (w .cursor) i ≡ ended (viewOf (w .router)) (w .cursor) x
       → Small x
       → noReply ≡ replyIn x
-      → t ≡ endedIn r c x
-      → Turns s r c t
-  on-last x t n l m a f =
-      rw f (record { same = sym (ap (nextBy s (viewOf r) c) e ∙ n); law = l; sound = sound-closed c h; little = m; answer = a })
+      → t ≡ endedIn w x
+      → Turns s w t
+  on-last x t n m a f =
+      rw f
+      (record {
+        same = sym (ap (nextBy s (viewOf (w .router)) (w .cursor)) e ∙ n);
+        more = refl;
+        ready = record { law = h .law; sound = sound-closed (w .cursor) (h .sound) };
+        little = m;
+        answer = a;
+      })
 
 -- what is settled is small, and has no reply
 settled-small : (i : Item) → Settles i → Small i
@@ -202,14 +219,10 @@ settled-reply (RefusedTable r) h = refl
 settled-reply TooLong h = refl
 settled-reply Nothing h = refl
 
-pub on-settled : (s : List ℕ) (r : Router) (c : Cursor) → Sound c → (x : Item) (t : Turn)
-    → aheadOf s c ≡ ahead.Last x
-    → Lawful r
-    → t ≡ endedIn r c x
-    → Turns s r c t
-on-settled s r c h x t e l f =
-    let k = inside-of s r c h (ahead.Last x) e h in
-    on-last s r c h (ahead.Last x) e x t refl l (settled-small x k) (settled-reply x k) f
+pub on-settled : (s : List ℕ) (w : Session) → Ready w → (x : Item) (t : Turn) → aheadOf s (w .cursor) ≡ ahead.Last x → t ≡ endedIn w x → Turns s w t
+on-settled s w h x t e f =
+    let k = inside-of s w h (ahead.Last x) e (h .sound) in
+    on-last s w h (ahead.Last x) e x t refl (settled-small x k) (settled-reply x k) f
 
 -- ---- the arms of `look_ahead`
 

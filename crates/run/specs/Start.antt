@@ -9,7 +9,6 @@ use Rattle.table.specs.declared.Rows.{Rows}
 use Rattle.table.specs.declared.Checked.{Checked}
 use Rattle.table.specs.declared.Checked.the-variants.{Accepted, Refused as RefusedTable}
 use Rattle.table.specs.Table.{noRows, withRow, judgeRows}
-use Rattle.router.specs.Router.{viewOf, Lawful}
 use Rattle.start.specs.Start.{blank, startWith}
 use Rattle.fields.specs.Fields.{Script, torn, begins, row-then}
 use Rattle.fields.specs.Places.{scriptAt}
@@ -20,7 +19,7 @@ use Rattle.run.specs.declared.Cursor.{Cursor}
 use Rattle.run.specs.declared.Session.{Session}
 use Rattle.run.specs.declared.Heading.{Heading}
 use Rattle.run.specs.Run.{runOf}
-use Rattle.run.specs.State.{noTally, itemsLeft, Sound}
+use Rattle.run.specs.State.{noTally, itemsIn, Ready}
 
 -- the rows, from the field with the number n on; a whole row has 6 bytes
 abbrev pub headingBy : Rows → (n at : ℕ) → Script → Heading
@@ -54,6 +53,5 @@ startOf s =
 -- the contract of `begin`: all that the input has is left
 pub record Begins (s : List ℕ) (b : Session) : Type 0 where
   pub same : b ≡ startOf s
-  pub all : itemsLeft s (viewOf (b .router)) (b .cursor) ≡ runOf s
-  pub law : Lawful (b .router)
-  pub sound : Sound (b .cursor)
+  pub all : itemsIn s b ≡ runOf s
+  pub ready : Ready b

@@ -6,13 +6,14 @@ use mathlib.Core.List.{List, [], _∷_}
 use lib.Dec.{ltb}
 use lib.ListN.{length}
 use Rattle.lists.specs.Lists.{count}
+use Rattle.place.specs.declared.Place.{Place}
 use Rattle.places.specs.Places.{isOpen, isOwed}
 use Rattle.rules.specs.View.{View}
 use Rattle.rules.specs.Apply.{applied}
 use Rattle.rules.specs.declared.Outcome.{Outcome}
 use Rattle.rules.specs.declared.Outcome.the-variants.{Passed, Answered, Swallowed, Event, Turned, Given, Reset, Refused as RefusedStep}
-use Rattle.router.specs.declared.Router.{Router}
-use Rattle.router.specs.Router.{viewOf, Lawful}
+use Rattle.routing.specs.declared.Step as routing
+use Rattle.router.specs.Router.{viewOf, Lawful, stateOf}
 use Rattle.fields.specs.declared.NextStep.{NextStep}
 use Rattle.fields.specs.declared.NextStep.the-variants as next
 use Rattle.fields.specs.Fields.{Step, message, give-up, replaced, Steps, over, broken, then}
@@ -26,7 +27,9 @@ use Rattle.run.specs.declared.Stage.the-variants.{Steps as steps, Settle
 use Rattle.run.specs.declared.Cursor.{Cursor}
 use Rattle.run.specs.declared.Ahead.{Ahead}
 use Rattle.run.specs.declared.Ahead.the-variants as ahead
+use Rattle.run.specs.declared.Session.{Session}
 use Rattle.run.specs.declared.Turn.{Turn}
+use Rattle.run.specs.declared.Went.{Went}
 use Rattle.run.specs.Run.{noReply, replyOf, replyIn, outcomeOf}
 
 -- ---- the counts
@@ -44,19 +47,19 @@ tallied (Turned asker asked t k) n = n
 tallied (Reset h) n = n
 tallied (RefusedStep r) n = n
 
-abbrev pub totalsOf : Tally → View → Totals
-totalsOf n v = record {
+abbrev pub totalsOf : Tally → List Place → Totals
+totalsOf n ps = record {
   accepted = n .accepted;
   answered = n .answered;
   given = n .given;
-  waiting = count isOpen (v .places);
-  owing = count isOwed (v .places);
+  waiting = count isOpen ps;
+  owing = count isOwed ps;
 }
 
 -- ---- the items that are left
 
 abbrev pub itemsFrom : View → Tally → (k : ℕ) → Steps → List Item
-itemsFrom v n k over = Over (totalsOf n v) ∷ []
+itemsFrom v n k over = Over (totalsOf n (v .places)) ∷ []
 itemsFrom v n k (broken b) = Broken b ∷ []
 itemsFrom v n k (then st m) = Came k (outcomeOf v st) ∷ itemsFrom (applied (outcomeOf v st) v) (tallied (outcomeOf v st) n) (k + 1) m
 
@@ -85,7 +88,7 @@ leftBy s v c (Settled i) = followed i []
 unfoldable pub itemsLeft : List ℕ → View → Cursor → List Item
 itemsLeft s v c = leftBy s v c (c .stage)
 
--- ---- the law of every state that `begin` or `next` hands back: no number is above what was read
+-- ---- the law of a cursor: no number is above what was read
 
 -- numbers of five digits
 abbrev pub Small : Item → Type 0
@@ -118,6 +121,24 @@ pub record Sound (c : Cursor) : Type 0 where
   pub given : c .tally .given ≤ c .at
   pub settled : SettledIn (c .stage)
 
+-- ---- a session
+
+-- the law of every session that `begin` or `next` hands back
+pub record Ready (w : Session) : Type 0 where
+  pub law : Lawful (w .router)
+  pub sound : Sound (w .cursor)
+
+-- a session as it means
+pub record Sight : Type 0 where
+  pub view : View
+  pub cursor : Cursor
+
+abbrev pub sightOf : Session → Sight
+sightOf w = record { view = viewOf (w .router); cursor = w .cursor }
+
+abbrev pub itemsIn : List ℕ → Session → List Item
+itemsIn s w = itemsLeft s (viewOf (w .router)) (w .cursor)
+
 -- ---- one item
 
 -- what a turn hands back, with the router's view
@@ -128,7 +149,7 @@ pub record Shown : Type 0 where
   pub view : View
 
 abbrev pub shown : Turn → Shown
-shown t = record { item = t .item; reply = t .reply; cursor = t .cursor; view = viewOf (t .router) }
+shown t = record { item = t .item; reply = t .reply; cursor = t .next .cursor; view = viewOf (t .next .router) }
 
 -- after a step whose field ends at nx
 abbrev pub wentBy : Cursor → Outcome → (nx : ℕ) → Cursor
@@ -149,8 +170,8 @@ closed c = record { at = c .at; number = c .number; step = c .step; tally = c .t
 abbrev pub ended : View → Cursor → Item → Shown
 ended v c i = record { item = i; reply = noReply; cursor = closed c; view = v }
 
-abbrev pub endedIn : Router → Cursor → Item → Turn
-endedIn r c i = record { item = i; reply = noReply; cursor = closed c; router = r }
+abbrev pub endedIn : Session → Item → Turn
+endedIn w i = record { item = i; reply = noReply; more = handsOut i; next = record { cursor = closed (w .cursor); router = w .router } }
 
 -- what comes next, before the router is asked
 abbrev pub aheadIn : (number : ℕ) → NextStep → Ahead
@@ -171,21 +192,43 @@ abbrev pub nextBy : List ℕ → View → Cursor → Ahead → Shown
 nextBy s v c (ahead.Message a b) = went v c (message (between s a b)) b
 nextBy s v c (ahead.GiveUp t a b) = went v c (give-up t a) b
 nextBy s v c (ahead.Replaced a b) = went v c (replaced a) b
-nextBy s v c ahead.Over = ended v c (Over (totalsOf (c .tally) v))
+nextBy s v c ahead.Over = ended v c (Over (totalsOf (c .tally) (v .places)))
 nextBy s v c (ahead.Last i) = ended v c i
 
 abbrev pub nextOf : List ℕ → View → Cursor → Shown
 nextOf s v c = nextBy s v c (aheadOf s c)
 
+-- what a session means after one item
+abbrev pub turned : List ℕ → Sight → Sight
+turned s x = record { view = nextOf s (x .view) (x .cursor) .view; cursor = nextOf s (x .view) (x .cursor) .cursor }
+
 -- the contract of a step: what it hands back, and the router's law
-pub record Stepped (r : Router) (c : Cursor) (st : Step) (nx : ℕ) (t : Turn) : Type 0 where
-  pub same : shown t ≡ went (viewOf r) c st nx
-  pub law : Lawful (t .router)
+pub record Stepped (w : Session) (st : Step) (nx : ℕ) (t : Turn) : Type 0 where
+  pub same : shown t ≡ went (viewOf (w .router)) (w .cursor) st nx
+  pub more : t .more ≡ true
+  pub law : Lawful (t .next .router)
 
 -- the contract of `next`
-pub record Turns (s : List ℕ) (r : Router) (c : Cursor) (t : Turn) : Type 0 where
-  pub same : shown t ≡ nextOf s (viewOf r) c
-  pub law : Lawful (t .router)
-  pub sound : Sound (t .cursor)
+pub record Turns (s : List ℕ) (w : Session) (t : Turn) : Type 0 where
+  pub same : shown t ≡ nextOf s (viewOf (w .router)) (w .cursor)
+  pub more : t .more ≡ handsOut (t .item)
+  pub ready : Ready (t .next)
   pub little : Small (t .item)
   pub answer : t .reply ≡ replyIn (t .item)
+
+-- ---- in place: the arrays of the router are lent
+
+-- a session is its parts
+abbrev pub sessionOf : (cells : List ℕ) → (count : ℕ) → (list : List ℕ) → (len : ℕ) → Cursor → Session
+sessionOf c n l k x = record { cursor = x; router = stateOf c n l k }
+
+-- what is handed out, with what the arrays then hold
+abbrev pub turnOf : Went → (cells : List ℕ) → (count : ℕ) → (list : List ℕ) → Turn
+turnOf w c n l = record { item = w .item; reply = w .reply; more = w .more; next = sessionOf c n l (w .len) (w .cursor) }
+
+-- after a call of the router, and after the last item
+abbrev pub cameTo : Cursor → routing.Step → (reply : List ℕ) → (nx : ℕ) → Went
+cameTo c d y nx = record { item = Came (c .step) (d .outcome); reply = y; more = true; cursor = wentBy c (d .outcome) nx; len = d .len }
+
+abbrev pub endedAt : Cursor → Item → (len : ℕ) → Went
+endedAt c i k = record { item = i; reply = noReply; more = handsOut i; cursor = closed c; len = k }

@@ -10,6 +10,7 @@
 use fields::NextRow;
 use fields::NextStep;
 use router::Router;
+use routing::Step;
 use rules::Outcome;
 use table::Checked;
 use table::Row;
@@ -19,10 +20,11 @@ ghost use mathlib.Core.Path.{_≡_};
 ghost use Prim.Native.Nat.{_≤_};
 ghost use lib.ListN.{length};
 ghost use Rattle.table.specs.Table.{Held};
-ghost use Rattle.router.specs.Router.{viewOf, Lawful};
+ghost use Rattle.places.specs.Places as places;
+ghost use Rattle.places.specs.Places.{placesOf};
 ghost use Rattle.fields.specs.Fields.{message, give-up, replaced};
 ghost use Rattle.fields.specs.Places.{between};
-ghost use Rattle.run.specs.State.{tallied, totalsOf, Sound, wentBy, aheadOf, endedIn, Stepped, Turns};
+ghost use Rattle.run.specs.State.{tallied, totalsOf, handsOut, Sound, Ready, wentBy, aheadOf, Stepped, Turns, sessionOf, turnOf, cameTo, endedAt};
 ghost use Rattle.run.specs.Start.{headingOf, stageOf, startedBy, Begins};
 
 // What a run counts of its outcomes.
@@ -73,12 +75,21 @@ pub struct Session {
     pub router: Router,
 }
 
-// An item, the reply buffer after its call, and the next state.
+// An item, the reply buffer after its call, whether something was handed out, and the next state.
 pub struct Turn {
     pub item: Item,
     pub reply: [u8; 10],
+    pub more: bool,
+    pub next: Session,
+}
+
+// The same where the arrays of the router are lent: of the state, what they do not hold.
+pub struct Went {
+    pub item: Item,
+    pub reply: [u8; 10],
+    pub more: bool,
     pub cursor: Cursor,
-    pub router: Router,
+    pub len: usize,
 }
 
 // ---- a step
@@ -118,72 +129,86 @@ fn after_step(cursor: Cursor, outcome: Outcome, end: usize) -> Cursor
     }
 }
 
-fn on_message(router: Router, cursor: Cursor, input: &[u8], start: usize, end: usize) -> Turn
-    requires { ⌜ Lawful router ⌝ }
+// What a call of the router comes to, with the reply buffer after it.
+fn stepped(cursor: Cursor, done: Step, reply: [u8; 10], end: usize) -> Went
     requires { ⌜ Sound cursor ⌝ }
+    ensures { λ w. ⌜ w ≡ cameTo cursor done reply end ⌝ }
+{
+    let step = cursor.step;
+    let outcome = done.outcome;
+    let after = after_step(cursor, outcome, end);
+    Went {
+        item: Item::Came { step, outcome },
+        reply,
+        more: true,
+        cursor: after,
+        len: done.len,
+    }
+}
+
+fn on_message(
+    cells: &mut [u32; 16],
+    count: usize,
+    list: &mut [u64; 48],
+    len: usize,
+    cursor: Cursor,
+    input: &[u8],
+    start: usize,
+    end: usize,
+) -> Went
+    requires { ⌜ Ready (sessionOf (now cells) count (now list) len cursor) ⌝ }
     requires { ⌜ (start ≤ end) × (end ≤ length (now input)) ⌝ }
-    ensures { λ t. ⌜ Stepped router cursor (message (between (now (input .entry)) start end)) end t ⌝ }
+    ensures { λ w. ⌜ Stepped (sessionOf (now (cells .entry)) count (now (list .entry)) len cursor) (message (between (now (input .entry)) start end)) end (turnOf w (now (cells .exit)) count (now (list .exit))) ⌝ }
 {
     let mut reply = [0u8; 10];
-    let done = router.route(&input[start..end], &mut reply);
-    let outcome = done.outcome;
-    let next = done.next;
-    let after = after_step(cursor, outcome, end);
-    let step = cursor.step;
-    Turn {
-        item: Item::Came { step, outcome },
-        reply,
-        cursor: after,
-        router: next,
-    }
+    let done = router::route_in(cells, count, list, len, &input[start..end], &mut reply);
+    stepped(cursor, done, reply, end)
 }
 
-fn on_give_up(router: Router, cursor: Cursor, thread: u8, address: u16, end: usize) -> Turn
-    requires { ⌜ Lawful router ⌝ }
-    requires { ⌜ Sound cursor ⌝ }
-    ensures { λ t. ⌜ Stepped router cursor (give-up thread address) end t ⌝ }
+fn on_give_up(
+    cells: &[u32; 16],
+    count: usize,
+    list: &mut [u64; 48],
+    len: usize,
+    cursor: Cursor,
+    thread: u8,
+    address: u16,
+    end: usize,
+) -> Went
+    requires { ⌜ Ready (sessionOf (now cells) count (now list) len cursor) ⌝ }
+    ensures { λ w. ⌜ Stepped (sessionOf (now (cells .entry)) count (now (list .entry)) len cursor) (give-up thread address) end (turnOf w (now (cells .entry)) count (now (list .exit))) ⌝ }
 {
     let mut reply = [0u8; 10];
-    let done = router.give_up(thread, address, &mut reply);
-    let outcome = done.outcome;
-    let next = done.next;
-    let after = after_step(cursor, outcome, end);
-    let step = cursor.step;
-    Turn {
-        item: Item::Came { step, outcome },
-        reply,
-        cursor: after,
-        router: next,
-    }
+    let done = router::give_up_in(cells, count, list, len, thread, address, &mut reply);
+    stepped(cursor, done, reply, end)
 }
 
-fn on_replaced(router: Router, cursor: Cursor, address: u16, end: usize) -> Turn
-    requires { ⌜ Lawful router ⌝ }
-    requires { ⌜ Sound cursor ⌝ }
-    ensures { λ t. ⌜ Stepped router cursor (replaced address) end t ⌝ }
+fn on_replaced(
+    cells: &mut [u32; 16],
+    count: usize,
+    list: &mut [u64; 48],
+    len: usize,
+    cursor: Cursor,
+    address: u16,
+    end: usize,
+) -> Went
+    requires { ⌜ Ready (sessionOf (now cells) count (now list) len cursor) ⌝ }
+    ensures { λ w. ⌜ Stepped (sessionOf (now (cells .entry)) count (now (list .entry)) len cursor) (replaced address) end (turnOf w (now (cells .exit)) count (now (list .exit))) ⌝ }
 {
-    let done = router.replaced(address);
-    let outcome = done.outcome;
-    let next = done.next;
-    let after = after_step(cursor, outcome, end);
-    let step = cursor.step;
-    Turn {
-        item: Item::Came { step, outcome },
-        reply: [0; 10],
-        cursor: after,
-        router: next,
-    }
+    let reply = [0u8; 10];
+    let done = router::replaced_in(cells, count, list, len, address);
+    stepped(cursor, done, reply, end)
 }
 
 // ---- the end
 
-// The counts at the end, with what the router says is under way.
-fn sum_up(router: Router, tally: Tally) -> Totals
-    requires { ⌜ Lawful router ⌝ }
-    ensures { λ r. ⌜ r ≡ totalsOf tally (viewOf router) ⌝ }
+// The counts at the end, with what the places say is under way.
+fn sum_up(list: &[u64; 48], len: usize, tally: Tally) -> Totals
+    requires { ⌜ places.Lawful (now list) len ⌝ }
+    ensures { λ r. ⌜ r ≡ totalsOf tally (placesOf (now (list .entry)) len) ⌝ }
 {
-    let waiting = router.waiting();
-    let owing = router.owing();
+    let waiting = router::count_open(list, len);
+    let owing = router::count_owed(list, len);
     Totals {
         accepted: tally.accepted,
         answered: tally.answered,
@@ -193,14 +218,30 @@ fn sum_up(router: Router, tally: Tally) -> Totals
     }
 }
 
+// Whether something is handed out.
+fn hands_out(item: Item) -> bool
+    ensures { λ r. ⌜ r ≡ handsOut item ⌝ }
+{
+    match item {
+        Item::Nothing => false,
+        Item::Came { .. } => true,
+        Item::Over(_) => true,
+        Item::Broken(_) => true,
+        Item::Refused(_) => true,
+        Item::TooLong => true,
+    }
+}
+
 // The last item: nothing is left after it.
-fn ended(router: Router, cursor: Cursor, item: Item) -> Turn
-    ensures { λ t. ⌜ t ≡ endedIn router cursor item ⌝ }
+fn ended(cursor: Cursor, item: Item, len: usize) -> Went
+    ensures { λ w. ⌜ w ≡ endedAt cursor item len ⌝ }
 {
     let tally = cursor.tally;
-    Turn {
+    let more = hands_out(item);
+    Went {
         item,
         reply: [0; 10],
+        more,
         cursor: Cursor {
             at: cursor.at,
             number: cursor.number,
@@ -208,7 +249,7 @@ fn ended(router: Router, cursor: Cursor, item: Item) -> Turn
             tally,
             stage: Stage::Settled(Item::Nothing),
         },
-        router,
+        len,
     }
 }
 
@@ -260,27 +301,96 @@ fn look_ahead(cursor: Cursor, input: &[u8]) -> Ahead
     }
 }
 
-// Hands out the next item.
-pub fn next(router: Router, cursor: Cursor, input: &[u8]) -> Turn
-    requires { ⌜ Lawful router ⌝ }
-    requires { ⌜ Sound cursor ⌝ }
-    ensures { λ t. ⌜ Turns (now (input .entry)) router cursor t ⌝ }
+// Hands out the next item. The arrays of the router are lent, and changed in place.
+pub fn next_in(
+    cells: &mut [u32; 16],
+    count: usize,
+    list: &mut [u64; 48],
+    len: usize,
+    cursor: Cursor,
+    input: &[u8],
+) -> Went
+    requires { ⌜ Ready (sessionOf (now cells) count (now list) len cursor) ⌝ }
+    ensures { λ w. ⌜ Turns (now (input .entry)) (sessionOf (now (cells .entry)) count (now (list .entry)) len cursor) (turnOf w (now (cells .exit)) count (now (list .exit))) ⌝ }
 {
     match look_ahead(cursor, input) {
-        Ahead::Message { start, end } => on_message(router, cursor, input, start, end),
+        Ahead::Message { start, end } => on_message(
+            cells,
+            count,
+            list,
+            len,
+            cursor,
+            input,
+            start,
+            end,
+        ),
         Ahead::GiveUp {
             thread,
             address,
             end,
-        } => on_give_up(router, cursor, thread, address, end),
-        Ahead::Replaced { address, end } => on_replaced(router, cursor, address, end),
+        } => on_give_up(cells, count, list, len, cursor, thread, address, end),
+        Ahead::Replaced { address, end } => on_replaced(
+            cells,
+            count,
+            list,
+            len,
+            cursor,
+            address,
+            end,
+        ),
         Ahead::Over => {
             let tally = cursor.tally;
-            let sums = sum_up(router, tally);
-            ended(router, cursor, Item::Over(sums))
+            let sums = sum_up(list, len, tally);
+            ended(cursor, Item::Over(sums), len)
         }
-        Ahead::Last(item) => ended(router, cursor, item),
+        Ahead::Last(item) => ended(cursor, item, len),
     }
+}
+
+// ---- one item, by value
+
+// A session is its parts: who owns the arrays makes it of them.
+pub fn session_of(
+    cells: [u32; 16],
+    count: usize,
+    list: [u64; 48],
+    len: usize,
+    cursor: Cursor,
+) -> Session
+    ensures { λ r. ⌜ r ≡ sessionOf cells count list len cursor ⌝ }
+{
+    let router = router::state_of(cells, count, list, len);
+    Session { cursor, router }
+}
+
+// What was handed out in place, with what the arrays then hold.
+fn turn_of(went: Went, cells: [u32; 16], count: usize, list: [u64; 48]) -> Turn
+    ensures { λ t. ⌜ t ≡ turnOf went cells count list ⌝ }
+{
+    let item = went.item;
+    let reply = went.reply;
+    let cursor = went.cursor;
+    let next = session_of(cells, count, list, went.len, cursor);
+    Turn {
+        item,
+        reply,
+        more: went.more,
+        next,
+    }
+}
+
+// One turn of a session: hands out the next item.
+pub fn next(session: Session, input: &[u8]) -> Turn
+    requires { ⌜ Ready session ⌝ }
+    ensures { λ t. ⌜ Turns (now (input .entry)) session t ⌝ }
+{
+    let router = session.router;
+    let cursor = session.cursor;
+    let count = router.count;
+    let mut cells = router.cells;
+    let mut list = router.list;
+    let went = next_in(&mut cells, count, &mut list, router.len, cursor, input);
+    turn_of(went, cells, count, list)
 }
 
 // ---- the rows

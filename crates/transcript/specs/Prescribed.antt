@@ -5,7 +5,9 @@ use Rattle.rules.specs.Said.{saidOutcome}
 use Rattle.lines.specs.Lines.{stepLine, totalsLine, brokenLine, tableLine, longLine}
 use Rattle.run.specs.declared.Item.{Item}
 use Rattle.run.specs.declared.Item.the-variants.{Came, Over, Broken, Refused, TooLong, Nothing}
+use Rattle.run.specs.declared.Session.{Session}
 use Rattle.run.specs.Run.{replyIn, runOf}
+use Rattle.run.specs.State.{itemsIn}
 
 -- the line of an item, with what stands in the reply buffer
 unfoldable pub lineWith : Item → (reply : List ℕ) → List ℕ
@@ -22,3 +24,7 @@ lineOf i = lineWith i (replyIn i)
 -- 'One line a field after the rows .. Last line `totals` ..'
 abbrev pub prescribed : List ℕ → List (List ℕ)
 prescribed s = map lineOf (runOf s)
+
+-- those that are left to print in a state
+abbrev pub linesLeft : List ℕ → Session → List (List ℕ)
+linesLeft s w = map lineOf (itemsIn s w)
