@@ -1,20 +1,21 @@
--- A page has room for a line and the words below it, so it holds them whole. Assumes nothing.
-use Prim.Native.Nat.{ℕ, _+_, _≤_}
+-- A page has room for a line and the words below it, where 24,511 bytes or fewer are used; so it holds its blocks whole. Assumes nothing.
+use Prim.Native.Nat.{ℕ, _+_, _≤_, _<_}
 use mathlib.Core.Path.{_≡_, refl, sym, ap, _∙_}
 use mathlib.Core.Bool.{true, false}
 use mathlib.Core.List.{List, [], _++_}
 use native.Mathlib.Omega.{arith}
 use lib.ListN.{length, take, drop, length-append}
 use lib.Seq.{take-append-seam}
+use borrow.Author.Tests.{lt-ltb, le-ltb}
 use Rattle.text.specs.Text.{Pen, pen, puts}
-use Rattle.text.proofs.Laws.{puts-fit, puts-length, more as after-it}
+use Rattle.text.proofs.Laws.{puts-none, puts-fit, puts-at, puts-length, more as after-it}
 use Rattle.run.specs.declared.Session.{Session}
 use Rattle.run.specs.declared.Turn.{Turn}
-use Rattle.run.specs.State.{handsOut, Shown, Turns}
+use Rattle.run.specs.State.{Ready, Turns}
+use Rattle.run.proofs.Left.{none-left}
 use Rattle.transcript.specs.Prescribed.{lineWith, lineOf}
 use Rattle.transcript.proofs.Short.{short}
-use Rattle.pages.specs.Pages.{itemIn}
-use Rattle.blocks.specs.Blocks.{indented, Written, Noted, Told}
+use Rattle.blocks.specs.Blocks.{indented, Written, Noted, Put, Blocks, none, block, Told}
 use Rattle.blocks.proofs.Indenting.{long}
 
 -- a text that fits stands whole at the page's front
@@ -31,39 +32,79 @@ noted old new used g =
     let h = front old new (indented (g .words)) used (g .text) (omega (arith, g .few, g .room, long (g .words))) in
     record { words = g .words; text = h .0; inside = h .1 }
 
--- a block, from the contract of `run::next`
-module _ (s : List ℕ) (w : Session) (t : Turn) (g : Turns s (w .router) (w .cursor) t) where
-  same-item : t .item ≡ itemIn s w
-  same-item = ap (λ (x : Shown). x .item) (g .same)
+-- words below a line
+pub put : (t : Turn) (old mid new : List ℕ) (at line used : ℕ) → pen mid line ≡ puts (pen old at) (lineWith (t .item) (t .reply))
+    → Written mid line new used
+    → Put t old at new used
+put t old mid new at line used e h =
+    let l : List ℕ = lineWith (t .item) (t .reply) in
+    let n : length mid ≡ length old = ap (λ (x : Pen). length (x .bytes)) e ∙ puts-length (pen old at) l in
+    record {
+      words = h .words;
+      few = h .few;
+      room = sym n ∙ h .room;
+      text = after-it (pen old at) (pen mid line) (pen new used) l (indented (h .words)) e (h .text);
+    }
 
-  -- the line, and words below it
-  pub told : (old mid new : List ℕ) (line used : ℕ) → handsOut (t .item) ≡ true
-      → pen mid line ≡ puts (pen old 0) (lineWith (t .item) (t .reply)) → Written mid line new used
-      → Told s w new (record { used = used; more = true; next = record { cursor = t .cursor; router = t .router } })
-  told old mid new line used y e h =
-      let l : List ℕ = lineOf (t .item) in
-      let d : List ℕ = indented (h .words) in
-      let f : pen mid line ≡ puts (pen old 0) l = e ∙ ap (λ (x : List ℕ). puts (pen old 0) (lineWith (t .item) x)) (g .answer) in
-      let n : length mid ≡ length old = ap (λ (x : Pen). length (x .bytes)) f ∙ puts-length (pen old 0) l in
-      let a : pen new used ≡ puts (pen old 0) (l ++ d) = after-it (pen old 0) (pen mid line) (pen new used) l d f (h .text) in
-      let b = front old new (l ++ d) used a (omega (arith, n, h .room, h .few, long (h .words), short (t .item) (g .little), length-append l d)) in
-      record {
-        words = h .words;
-        text = b .0 ∙ rw same-item;
-        inside = b .1;
-        more = sym y ∙ ap handsOut same-item;
-        moved = λ i. record { view = g .same i .view; cursor = g .same i .cursor };
-        ready = record { law = g .law; sound = g .sound };
-      }
+-- ---- the loop of `fill_page`
 
-  -- nothing is left
-  pub stopped : (new : List ℕ) → handsOut (t .item) ≡ false
-      → Told s w new (record { used = 0; more = false; next = record { cursor = t .cursor; router = t .router } })
-  stopped new y = record {
-    words = [];
-    text = refl;
-    inside = omega arith;
-    more = sym y ∙ ap handsOut same-item;
-    moved = λ i. record { view = g .same i .view; cursor = g .same i .cursor };
-    ready = record { law = g .law; sound = g .sound };
+-- used bytes of the page are the blocks from w to v
+pub record Going (s page₀ : List ℕ) (w : Session) (page : List ℕ) (v : Session) (used : ℕ) : Type 0 where
+  pub text : List ℕ
+  pub blocks : Blocks s w v text
+  pub written : pen page used ≡ puts (pen page₀ 0) text
+  pub size : used ≡ length text
+  pub inside : used ≤ length page
+  pub ready : Ready v
+
+pub going : (s page : List ℕ) (w : Session) → Ready w → Going s page w page w 0
+going s page w h = record {
+  text = [];
+  blocks = none;
+  written = sym (puts-none (pen page 0));
+  size = refl;
+  inside = omega arith;
+  ready = h;
+}
+
+module _ (s page₀ : List ℕ) (w : Session) (page : List ℕ) (v : Session) (used : ℕ) (go : Going s page₀ w page v used) where
+  holds : (take used page ≡ go .text) × (used ≤ length page)
+  holds =
+      let n : length page ≡ length page₀ = ap (λ (x : Pen). length (x .bytes)) (go .written) ∙ puts-length (pen page₀ 0) (go .text) in
+      front page₀ page (go .text) used (go .written) (omega (arith, n, go .size, go .inside))
+
+  pub page-full : 24511 < used → Told s w page (record { used = used; more = true; next = v })
+  page-full h = record {
+    blocks = rw (holds .0) (go .blocks);
+    inside = go .inside;
+    more = sym (lt-ltb 24511 used h);
+    last = λ z. let z : _≡_ {A = ℕ} 0 1 = cc in absurd (omega arith);
+    ready = go .ready;
   }
+
+  module _ (t : Turn) (g : Turns s v t) (h : used ≤ 24511) where
+    pub page-turn : (page′ : List ℕ) (used′ : ℕ) → t .more ≡ true → Put t page used page′ used′ → Going s page₀ w page′ (t .next) used′
+    page-turn page′ used′ y p =
+        let l : List ℕ = lineOf (t .item) in
+        let d : List ℕ = l ++ indented (p .words) in
+        let f : pen page′ used′ ≡ puts (pen page used) d = p .text ∙ ap (λ (x : List ℕ). puts (pen page used) (lineWith (t .item) x ++ indented (p .words))) (g .answer) in
+        let b : length d ≤ 41025 = omega (arith, p .few, long (p .words), short (t .item) (g .little), length-append l (indented (p .words))) in
+        let at : used′ ≡ used + length d = ap (λ (x : Pen). x .at) f ∙ puts-at d page used (omega (arith, p .room)) in
+        let len : length page′ ≡ length page = ap (λ (x : Pen). length (x .bytes)) f ∙ puts-length (pen page used) d in
+        record {
+          text = go .text ++ d;
+          blocks = block v (go .text) (go .blocks) t g y (p .words);
+          written = after-it (pen page₀ 0) (pen page used) (pen page′ used′) (go .text) d (go .written) f;
+          size = omega (arith, at, go .size, length-append (go .text) d);
+          inside = omega (arith, at, len, p .room, b);
+          ready = g .ready;
+        }
+
+    pub page-stop : t .more ≡ false → Told s w page (record { used = used; more = false; next = v })
+    page-stop y = record {
+      blocks = rw (holds .0) (go .blocks);
+      inside = go .inside;
+      more = sym (le-ltb 24511 used h);
+      last = λ z. none-left s v t g y .0;
+      ready = go .ready;
+    }

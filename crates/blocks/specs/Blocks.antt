@@ -1,18 +1,18 @@
 -- A session explained: 'a block that begins with the session program's own line and then says in plain words what came'.
 use Prim.Native.Nat.{ℕ, _≤_}
 use mathlib.Core.Path.{_≡_}
-use mathlib.Core.Bool.{Bool, true, cond}
+use mathlib.Core.Bool.{Bool, true, false, cond}
 use mathlib.Core.List.{List, [], _∷_, _++_}
-use lib.Dec.{eqb}
+use lib.Dec.{ltb, eqb}
 use lib.ListN.{length, take}
 use Rattle.text.specs.Text.{ascii, pen, puts}
 use Rattle.lines.specs.Lines.{lf}
 use Rattle.run.specs.declared.Session.{Session}
-use Rattle.run.specs.State.{handsOut}
+use Rattle.run.specs.declared.Turn.{Turn}
+use Rattle.run.specs.State.{Ready, itemsIn, Turns}
 use Rattle.run.specs.Start.{Begins}
-use Rattle.transcript.specs.Prescribed.{lineOf}
-use Rattle.pages.specs.Pages.{sightOf, itemIn, turned, Ready}
-use Rattle.blocks.specs.declared.Block.{Block}
+use Rattle.transcript.specs.Prescribed.{lineWith, lineOf}
+use Rattle.blocks.specs.declared.Page.{Page}
 
 -- ---- words, each line set in by four spaces; the last line is closed where the words do not close it
 
@@ -59,20 +59,35 @@ pub record Noted (new : List ℕ) (used : ℕ) : Type 0 where
   pub text : take used new ≡ indented words
   pub inside : used ≤ length new
 
--- the line and words below it, in whole lines; where no item is handed out, nothing
-pub record Told (s : List ℕ) (w : Session) (new : List ℕ) (b : Block) : Type 0 where
+-- the contract of `put_block`: the line of a turn's item, and words below it
+pub record Put (t : Turn) (old : List ℕ) (place : ℕ) (new : List ℕ) (used : ℕ) : Type 0 where
   pub words : List ℕ
-  pub text : take (b .used) new ≡ cond (b .more) (lineOf (itemIn s w) ++ indented words) []
-  pub inside : b .used ≤ length new
-  pub more : b .more ≡ handsOut (itemIn s w)
-  pub moved : sightOf (b .next) ≡ turned s (sightOf w)
-  pub ready : Ready (b .next)
+  pub few : length words ≤ 8192
+  pub room : length old ≡ 65536
+  pub text : pen new used ≡ puts (pen old place) (lineWith (t .item) (t .reply) ++ indented words)
+
+-- blocks from a state to a later one, as the contract of `run::next` tells it: for each item its line and words below it, in whole lines
+pub data Blocks (s : List ℕ) (w : Session) : Session → List ℕ → Type 0 where
+  none : Blocks s w w []
+  block : (v : Session) (text : List ℕ) → Blocks s w v text
+      → (t : Turn) → Turns s v t → t .more ≡ true
+      → (words : List ℕ)
+      → Blocks s w (t .next) (text ++ (lineOf (t .item) ++ indented words))
+
+-- the contract of `fill_page`: blocks, and nothing else. A block is begun while 24,511 bytes or fewer are used; where the page says that there
+-- is no more, nothing is left
+pub record Told (s : List ℕ) (w : Session) (new : List ℕ) (p : Page) : Type 0 where
+  pub blocks : Blocks s w (p .next) (take (p .used) new)
+  pub inside : p .used ≤ length new
+  pub more : p .more ≡ ltb 24511 (p .used)
+  pub last : p .more ≡ false → itemsIn s (p .next) ≡ []
+  pub ready : Ready (p .next)
 
 -- ---- all blocks
 
--- what was written so far, in order, as the contracts of `run::begin`, `preface` and `next_block` tell it: each part is the used part of its page
+-- what was written so far, in order, as the contracts of `run::begin`, `preface` and `fill_page` tell it: each part is the used part of its page
 pub data Explained (s : List ℕ) : Session → List (List ℕ) → Type 0 where
   begun : (w : Session) → Begins s w → (page : List ℕ) (used : ℕ) → Noted page used → Explained s w (take used page ∷ [])
   told : (w : Session) (parts : List (List ℕ)) → Explained s w parts
-      → (page : List ℕ) (b : Block) → Told s w page b
-      → Explained s (b .next) (parts ++ (take (b .used) page ∷ []))
+      → (page : List ℕ) (p : Page) → Told s w page p
+      → Explained s (p .next) (parts ++ (take (p .used) page ∷ []))

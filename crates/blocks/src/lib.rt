@@ -5,14 +5,18 @@
 // no line of a transcript begins with a space. So the words cannot be taken for the transcript: of all
 // that is written, the lines that begin with no space are the transcript, byte for byte (proofs/Heads.antt,
 // `first-lines`).
+//
+// Blocks are gathered in pages. A block is begun while there is room for the longest, 41,025 bytes: a
+// line of 64, 8,192 bytes of words with four spaces before each, and a line feed.
 use run::Session;
+use run::Turn;
 ghost use mathlib.Core.Path.{_≡_};
 ghost use Rattle.text.specs.Text.{pen, puts};
-ghost use Rattle.pages.specs.Pages.{Ready};
-ghost use Rattle.blocks.specs.Blocks.{indented, Written, Noted, Told};
+ghost use Rattle.run.specs.State.{Ready};
+ghost use Rattle.blocks.specs.Blocks.{indented, Written, Noted, Put, Told};
 
-// How many bytes of the page are used, whether there was an item, and the next state.
-pub struct Block {
+// How many bytes of a page are used, whether it was full before the end was seen, and the next state.
+pub struct Page {
     pub used: usize,
     pub more: bool,
     pub next: Session,
@@ -49,49 +53,69 @@ fn note(page: &mut [u8; 65536], at: usize, words: &[u8; 8192], said: usize) -> u
     indent(page, at, &all[..n])
 }
 
-// What is said of the table, before the first block.
-pub fn preface(input: &[u8], sheet: &[u8; 65536], page: &mut [u8; 65536]) -> usize
+// What is said of the table, before the first block. The words are made in a buffer that is lent.
+pub fn preface(
+    input: &[u8],
+    sheet: &[u8; 65536],
+    page: &mut [u8; 65536],
+    words: &mut [u8; 8192],
+) -> usize
     ensures { λ r. ⌜ Noted (now (page .exit)) r ⌝ }
 {
-    let mut words = [0u8; 8192];
-    let said = telling::tell_rows(&mut words, sheet, input);
-    note(page, 0, &words, said)
+    let said = telling::tell_rows(words, sheet, input);
+    note(page, 0, words, said)
 }
 
-// The block of the next item; where nothing is left there is none.
-pub fn next_block(
+// The block of a turn, from a place on: the line of its item, and the words below it. They are told
+// from the states before and after it.
+fn put_block(
+    page: &mut [u8; 65536],
+    at: usize,
+    input: &[u8],
+    sheet: &[u8; 65536],
+    session: Session,
+    turn: Turn,
+    words: &mut [u8; 8192],
+) -> usize
+    ensures { λ r. ⌜ Put turn (now (page .entry)) at (now (page .exit)) r ⌝ }
+{
+    let arrival = arrivals::arrival_at(input, session.cursor.at);
+    let item = turn.item;
+    let reply = turn.reply;
+    let line = transcript::put_line(page, at, item, &reply);
+    let before = session.router;
+    let after = turn.next.router;
+    let said = telling::tell(words, sheet, arrival, item, before, after);
+    note(page, line, words, said)
+}
+
+// Fills a page with the blocks of the next items.
+pub fn fill_page(
     session: Session,
     input: &[u8],
     sheet: &[u8; 65536],
     page: &mut [u8; 65536],
-) -> Block
+    words: &mut [u8; 8192],
+) -> Page
     requires { ⌜ Ready session ⌝ }
-    ensures { λ b. ⌜ Told (now (input .entry)) session (now (page .exit)) b ⌝ }
+    ensures { λ r. ⌜ Told (now (input .entry)) session (now (page .exit)) r ⌝ }
 {
-    let router = session.router;
-    let cursor = session.cursor;
-    let arrival = arrivals::arrival_at(input, cursor.at);
-    let turn = run::next(router, cursor, input);
-    let item = turn.item;
-    let reply = turn.reply;
-    let after = turn.cursor;
-    let state = turn.router;
-    let next = Session {
-        cursor: after,
-        router: state,
-    };
-    if pages::is_nothing(item) {
-        return Block {
-            used: 0,
-            more: false,
-            next,
-        };
+    let mut next = session;
+    let mut used = 0;
+    while used <= 24511 {
+        let turn = run::next(next, input);
+        if !turn.more {
+            return Page {
+                used,
+                more: false,
+                next,
+            };
+        }
+        used = put_block(page, used, input, sheet, next, turn, words);
+        next = turn.next;
     }
-    let line = transcript::put_line(page, 0, item, &reply);
-    let mut words = [0u8; 8192];
-    let said = telling::tell(&mut words, sheet, arrival, item, router, state);
-    Block {
-        used: note(page, line, &words, said),
+    Page {
+        used,
         more: true,
         next,
     }

@@ -9,33 +9,41 @@
 // the last that is proved is that of crate `picture`. `show` writes each part once, in order.
 
 // Draws the rows of one input; false where they cannot be written.
-fn show_rows(sheet: &[u8; 65536], input: &[u8], total: usize) -> bool {
-    let mut page = io::large_buffer();
+fn show_rows(
+    sheet: &[u8; 65536],
+    input: &[u8],
+    total: usize,
+    page: &mut [u8; 65536],
+    list: &mut [usize; 2048],
+) -> bool {
     let mut session = run::begin(input);
     loop {
-        let row = picture::next_row(session, total, input, sheet, &mut page);
-        let used = row.used;
-        if !inputs::write(b"ladder", &page[..used]) {
+        let filled = picture::fill_page(session, total, input, sheet, page, list);
+        let used = filled.used;
+        let all = &page[..];
+        if !inputs::write(b"ladder", &all[..used]) {
             return false;
         }
-        if !row.more {
+        if !filled.more {
             return true;
         }
-        session = row.next;
+        session = filled.next;
     }
 }
 
+// The page and the list of forms are made once, and lent.
 fn show(sheet: &[u8; 65536], input: &[u8]) {
     let mut page = io::large_buffer();
+    let mut list = [0usize; 2048];
     let total = picture::count_rows(run::begin(input), input);
-    let begun = picture::opening(total, sheet, &mut page);
+    let begun = picture::opening(total, sheet, &mut page, &mut list);
     if !inputs::write(b"ladder", &page[..begun]) {
         return;
     }
-    if !show_rows(sheet, input, total) {
+    if !show_rows(sheet, input, total, &mut page, &mut list) {
         return;
     }
-    let ended = picture::closing(sheet, &mut page);
+    let ended = picture::closing(sheet, &mut page, &mut list);
     inputs::write(b"ladder", &page[..ended]);
 }
 

@@ -8,19 +8,15 @@ use lib.Dec.{ltb}
 use lib.ListN.{length, take, drop, take-append-drop, drop-of-length-le}
 use lib.Seq.{length-take-le, take-all, take-append-seam}
 use borrow.Table.Steps.{cases}
-use borrow.Author.Tests.{le-ltb, ltb-true, ltb-false}
+use borrow.Author.Tests.{lt-ltb, le-ltb, ltb-true, ltb-false}
 use Rattle.text.specs.Text.{Pen, pen, pushed, puts}
-use Rattle.text.proofs.Laws.{puts-none, puts-append, puts-fit, puts-length, puts-inside}
-use Rattle.router.specs.declared.Router.{Router}
-use Rattle.router.specs.Router.{viewOf}
-use Rattle.run.specs.declared.Cursor.{Cursor}
+use Rattle.text.proofs.Laws.{puts-none, puts-append, puts-fit, puts-length, puts-inside, more as after-it}
 use Rattle.run.specs.declared.Session.{Session}
 use Rattle.run.specs.declared.Turn.{Turn}
-use Rattle.run.specs.State.{handsOut, itemsLeft, Shown, shown, Turns}
-use Rattle.run.proofs.Left.{some-next}
-use Rattle.pages.specs.Pages.{itemIn}
+use Rattle.run.specs.State.{Ready, Turns}
+use Rattle.run.proofs.Left.{none-left}
 use Rattle.forms.specs.Forms.{formsText}
-use Rattle.picture.specs.Picture.{Drawn, Part}
+use Rattle.picture.specs.Picture.{no-form, more-forms, Drawn, Added, Rows, none, row, Part}
 
 -- ---- the page's front
 
@@ -77,40 +73,54 @@ module _ (old new t : List ℕ) (used : ℕ) (e : pen new used ≡ puts (pen old
 -- forms, from the contract of `forms::put_list`
 pub drawn : (sheet old new list : List ℕ) (count used : ℕ) → pen new used ≡ puts (pen old 0) (formsText sheet list count) → Drawn sheet new used
 drawn sheet old new list count used e = record {
-  list = list;
-  count = count;
+  all = formsText sheet list count;
+  forms = more-forms [] no-form list count;
   text = front old new (formsText sheet list count) used e;
   inside = inside old new (formsText sheet list count) used e;
 }
 
--- no form
-blank : (sheet new : List ℕ) → Drawn sheet new 0
-blank sheet new = drawn sheet new new [] 0 0 (sym (puts-none (pen new 0)))
+-- ---- the loop of `fill_page`
 
--- a turn that hands out an item leaves fewer
-pub turn-fewer : (s : List ℕ) (r : Router) (c : Cursor) (t : Turn) → Turns s r c t → handsOut (t .item) ≡ true
-    → length (itemsLeft s (viewOf (t .router)) (t .cursor)) < length (itemsLeft s (viewOf r) c)
-turn-fewer s r c t g y = omega (arith, ap length (some-next s (viewOf r) c (shown t) (g .same) y))
+-- used bytes of the page are the rows from w to v
+pub record Going (s sheet page₀ : List ℕ) (w : Session) (page : List ℕ) (v : Session) (used : ℕ) : Type 0 where
+  pub all : List ℕ
+  pub rows : Rows s sheet w v all
+  pub written : pen page used ≡ puts (pen page₀ 0) all
+  pub ready : Ready v
 
--- a row, from the contract of `run::next`
-module _ (s : List ℕ) (w : Session) (t : Turn) (g : Turns s (w .router) (w .cursor) t) (sheet new : List ℕ) where
-  same-item : handsOut (t .item) ≡ handsOut (itemIn s w)
-  same-item = ap (λ (x : Shown). handsOut (x .item)) (g .same)
+pub going : (s sheet page : List ℕ) (w : Session) → Ready w → Going s sheet page w page w 0
+going s sheet page w h = record { all = []; rows = none; written = sym (puts-none (pen page 0)); ready = h }
 
-  pub row : (used : ℕ) → Drawn sheet new used → handsOut (t .item) ≡ true
-      → Part s w sheet new (record { used = used; more = true; next = record { cursor = t .cursor; router = t .router } })
-  row used d y = record {
-    drawn = d;
-    more = sym y ∙ same-item;
-    moved = λ i. record { view = g .same i .view; cursor = g .same i .cursor };
-    ready = record { law = g .law; sound = g .sound };
+module _ (s sheet page₀ : List ℕ) (w : Session) (page : List ℕ) (v : Session) (used : ℕ) (go : Going s sheet page₀ w page v used) where
+  pub page-full : 32768 < used → Part s w sheet page (record { used = used; more = true; next = v })
+  page-full h = record {
+    all = go .all;
+    rows = go .rows;
+    text = front page₀ page (go .all) used (go .written);
+    inside = inside page₀ page (go .all) used (go .written);
+    more = sym (lt-ltb 32768 used h);
+    last = λ e. let z : _≡_ {A = ℕ} 0 1 = cc in absurd (omega arith);
+    ready = go .ready;
   }
 
-  pub stopped : handsOut (t .item) ≡ false
-      → Part s w sheet new (record { used = 0; more = false; next = record { cursor = t .cursor; router = t .router } })
-  stopped y = record {
-    drawn = blank sheet new;
-    more = sym y ∙ same-item;
-    moved = λ i. record { view = g .same i .view; cursor = g .same i .cursor };
-    ready = record { law = g .law; sound = g .sound };
-  }
+  module _ (t : Turn) (g : Turns s v t) where
+    pub page-turn : (page′ : List ℕ) (used′ : ℕ) → t .more ≡ true → Added sheet page used page′ used′ → Going s sheet page₀ w page′ (t .next) used′
+    page-turn page′ used′ y a =
+        let f : List ℕ = formsText sheet (a .list) (a .count) in
+        record {
+          all = go .all ++ f;
+          rows = row v (go .all) (go .rows) t g y (a .list) (a .count);
+          written = after-it (pen page₀ 0) (pen page used) (pen page′ used′) (go .all) f (go .written) (a .text);
+          ready = g .ready;
+        }
+
+    pub page-stop : t .more ≡ false → used ≤ 32768 → Part s w sheet page (record { used = used; more = false; next = v })
+    page-stop y h = record {
+      all = go .all;
+      rows = go .rows;
+      text = front page₀ page (go .all) used (go .written);
+      inside = inside page₀ page (go .all) used (go .written);
+      more = sym (le-ltb 32768 used h);
+      last = λ e. none-left s v t g y .0;
+      ready = go .ready;
+    }

@@ -1,39 +1,65 @@
 -- A session as a picture: 'in the SVG nothing of the input's bytes is written but as hex digits'.
 use Prim.Native.Nat.{ℕ, _≤_}
 use mathlib.Core.Path.{_≡_}
+use mathlib.Core.Bool.{true, false}
 use mathlib.Core.List.{List, [], _∷_, _++_}
+use lib.Dec.{ltb}
 use lib.ListN.{length, take}
+use Rattle.text.specs.Text.{pen, puts}
 use Rattle.run.specs.declared.Session.{Session}
-use Rattle.run.specs.State.{handsOut}
+use Rattle.run.specs.declared.Turn.{Turn}
+use Rattle.run.specs.State.{Ready, itemsIn, Turns}
 use Rattle.run.specs.Start.{Begins}
-use Rattle.pages.specs.Pages.{sightOf, itemIn, turned, Ready}
 use Rattle.forms.specs.Forms.{formsText}
-use Rattle.picture.specs.declared.Row.{Row}
+use Rattle.picture.specs.declared.Page.{Page}
 
--- a part of the picture: forms of the sheet, whichever were chosen, and nothing else; past the page's end nothing is written
+-- lists of forms of the sheet, whichever were chosen, one after the other
+pub data Forms (sheet : List ℕ) : List ℕ → Type 0 where
+  no-form : Forms sheet []
+  more-forms : (text : List ℕ) → Forms sheet text → (list : List ℕ) (count : ℕ) → Forms sheet (text ++ formsText sheet list count)
+
+-- a part of the picture: forms of the sheet and nothing else; past the page's end nothing is written
 pub record Drawn (sheet new : List ℕ) (used : ℕ) : Type 0 where
-  pub list : List ℕ
-  pub count : ℕ
-  pub text : take used new ≡ take (length new) (formsText sheet list count)
+  pub all : List ℕ
+  pub forms : Forms sheet all
+  pub text : take used new ≡ take (length new) all
   pub inside : used ≤ length new
 
 -- a text that is forms of the sheet, as far as there was room for them
 pub record Formed (sheet text : List ℕ) : Type 0 where
+  pub all : List ℕ
+  pub forms : Forms sheet all
+  pub room : ℕ
+  pub is : text ≡ take room all
+
+-- the contract of `put_row`: a list of forms is written from a place on
+pub record Added (sheet old : List ℕ) (place : ℕ) (new : List ℕ) (used : ℕ) : Type 0 where
   pub list : List ℕ
   pub count : ℕ
-  pub room : ℕ
-  pub is : text ≡ take room (formsText sheet list count)
+  pub text : pen new used ≡ puts (pen old place) (formsText sheet list count)
 
--- the contract of `next_row`: a part, and the next item is the session's
-pub record Part (s : List ℕ) (w : Session) (sheet new : List ℕ) (r : Row) : Type 0 where
-  pub drawn : Drawn sheet new (r .used)
-  pub more : r .more ≡ handsOut (itemIn s w)
-  pub moved : sightOf (r .next) ≡ turned s (sightOf w)
-  pub ready : Ready (r .next)
+-- rows from a state to a later one, as the contract of `run::next` tells it: for each item a list of forms
+pub data Rows (s sheet : List ℕ) (w : Session) : Session → List ℕ → Type 0 where
+  none : Rows s sheet w w []
+  row : (v : Session) (text : List ℕ) → Rows s sheet w v text
+      → (t : Turn) → Turns s v t → t .more ≡ true
+      → (list : List ℕ) (count : ℕ)
+      → Rows s sheet w (t .next) (text ++ formsText sheet list count)
 
--- what was written so far, in order, as the contracts of `run::begin`, `opening` and `next_row` tell it: each part is the used part of its page
+-- the contract of `fill_page`: rows, and nothing else. A row is begun while 32,768 bytes or fewer are used; where the page says that there is no
+-- more, nothing is left
+pub record Part (s : List ℕ) (w : Session) (sheet new : List ℕ) (p : Page) : Type 0 where
+  pub all : List ℕ
+  pub rows : Rows s sheet w (p .next) all
+  pub text : take (p .used) new ≡ take (length new) all
+  pub inside : p .used ≤ length new
+  pub more : p .more ≡ ltb 32768 (p .used)
+  pub last : p .more ≡ false → itemsIn s (p .next) ≡ []
+  pub ready : Ready (p .next)
+
+-- what was written so far, in order, as the contracts of `run::begin`, `opening` and `fill_page` tell it: each part is the used part of its page
 pub data Pictured (s sheet : List ℕ) : Session → List (List ℕ) → Type 0 where
   begun : (w : Session) → Begins s w → (page : List ℕ) (used : ℕ) → Drawn sheet page used → Pictured s sheet w (take used page ∷ [])
   added : (w : Session) (parts : List (List ℕ)) → Pictured s sheet w parts
-      → (page : List ℕ) (r : Row) → Part s w sheet page r
-      → Pictured s sheet (r .next) (parts ++ (take (r .used) page ∷ []))
+      → (page : List ℕ) (p : Page) → Part s w sheet page p
+      → Pictured s sheet (p .next) (parts ++ (take (p .used) page ∷ []))

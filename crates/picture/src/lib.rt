@@ -3,16 +3,17 @@
 // Which forms are drawn is chosen in crate `drawing`; here they are written, and nothing else is. So a
 // picture is forms of the sheet, whatever the session file has in it, and what fills a form's holes are
 // digits or other wordings: nothing of the file's bytes is written but as digits (proofs/Inked.antt).
-// A part longer than its page would be cut; the longest row has under a third of one.
 //
-// A part is the file's beginning, a row, or its end; the parts in order are the picture.
+// A part is the file's beginning, a page of rows, or its end; the parts in order are the picture. A part
+// longer than its page would be cut. A row is begun while half of the page is free, and the longest row
+// has under a third of one.
 use run::Session;
-ghost use mathlib.Core.Path.{_≡_};
-ghost use Rattle.pages.specs.Pages.{Ready};
-ghost use Rattle.picture.specs.Picture.{Drawn, Part};
+use run::Turn;
+ghost use Rattle.run.specs.State.{Ready};
+ghost use Rattle.picture.specs.Picture.{Drawn, Added, Part};
 
-// How many bytes of the page are used, whether there was an item, and the next state.
-pub struct Row {
+// How many bytes of a page are used, whether it was full before the end was seen, and the next state.
+pub struct Page {
     pub used: usize,
     pub more: bool,
     pub next: Session,
@@ -22,62 +23,79 @@ pub struct Row {
 pub fn count_rows(session: Session, input: &[u8]) -> usize
     requires { ⌜ Ready session ⌝ }
 {
-    let mut router = session.router;
-    let mut cursor = session.cursor;
+    let mut next = session;
     loop {
-        let turn = run::next(router, cursor, input);
-        let item = turn.item;
-        cursor = turn.cursor;
-        router = turn.router;
-        if pages::is_nothing(item) {
-            return cursor.step;
+        let row = run::next(next, input);
+        if !row.more {
+            return next.cursor.step;
         }
+        next = row.next;
     }
 }
 
-// The beginning of the file.
-pub fn opening(total: usize, sheet: &[u8; 65536], page: &mut [u8; 65536]) -> usize
+// The beginning of the file. The forms are chosen in a list that is lent.
+pub fn opening(
+    total: usize,
+    sheet: &[u8; 65536],
+    page: &mut [u8; 65536],
+    list: &mut [usize; 2048],
+) -> usize
     ensures { λ r. ⌜ Drawn (now (sheet .entry)) (now (page .exit)) r ⌝ }
 {
-    let mut head = [0usize; 2048];
-    let count = drawing::draw_opening(&mut head, total);
-    forms::put_list(page, 0, sheet, &head, count)
+    let begun = drawing::draw_opening(list, total);
+    forms::put_list(page, 0, sheet, list, begun)
 }
 
-// The row of the next item; where nothing is left there is none.
-pub fn next_row(
+// The row of a turn, from a place on. It is drawn from the states before and after it.
+fn put_row(
+    page: &mut [u8; 65536],
+    at: usize,
+    total: usize,
+    input: &[u8],
+    sheet: &[u8; 65536],
+    session: Session,
+    turn: Turn,
+    list: &mut [usize; 2048],
+) -> usize
+    ensures { λ r. ⌜ Added (now (sheet .entry)) (now (page .entry)) at (now (page .exit)) r ⌝ }
+{
+    let cursor = session.cursor;
+    let came = arrivals::arrival_at(input, cursor.at);
+    let item = turn.item;
+    let row = if cursor.step == 0 { 0 } else { cursor.step - 1 };
+    let before = session.router;
+    let after = turn.next.router;
+    let count = drawing::draw_row(list, came, item, before, after, row, total);
+    forms::put_list(page, at, sheet, list, count)
+}
+
+// Fills a page with the rows of the next items.
+pub fn fill_page(
     session: Session,
     total: usize,
     input: &[u8],
     sheet: &[u8; 65536],
     page: &mut [u8; 65536],
-) -> Row
+    list: &mut [usize; 2048],
+) -> Page
     requires { ⌜ Ready session ⌝ }
     ensures { λ r. ⌜ Part (now (input .entry)) session (now (sheet .entry)) (now (page .exit)) r ⌝ }
 {
-    let router = session.router;
-    let cursor = session.cursor;
-    let came = arrivals::arrival_at(input, cursor.at);
-    let turn = run::next(router, cursor, input);
-    let item = turn.item;
-    let after = turn.cursor;
-    let state = turn.router;
-    let next = Session {
-        cursor: after,
-        router: state,
-    };
-    if pages::is_nothing(item) {
-        return Row {
-            used: 0,
-            more: false,
-            next,
-        };
+    let mut next = session;
+    let mut used = 0;
+    while used <= 32768 {
+        let turn = run::next(next, input);
+        if !turn.more {
+            return Page {
+                used,
+                more: false,
+                next,
+            };
+        }
+        used = put_row(page, used, total, input, sheet, next, turn, list);
+        next = turn.next;
     }
-    let row = if cursor.step == 0 { 0 } else { cursor.step - 1 };
-    let mut list = [0usize; 2048];
-    let count = drawing::draw_row(&mut list, came, item, router, state, row, total);
-    let used = forms::put_list(page, 0, sheet, &list, count);
-    Row {
+    Page {
         used,
         more: true,
         next,
@@ -85,10 +103,9 @@ pub fn next_row(
 }
 
 // The end of the file.
-pub fn closing(sheet: &[u8; 65536], page: &mut [u8; 65536]) -> usize
+pub fn closing(sheet: &[u8; 65536], page: &mut [u8; 65536], list: &mut [usize; 2048]) -> usize
     ensures { λ r. ⌜ Drawn (now (sheet .entry)) (now (page .exit)) r ⌝ }
 {
-    let mut foot = [0usize; 2048];
-    let count = drawing::draw_closing(&mut foot);
-    forms::put_list(page, 0, sheet, &foot, count)
+    let ended = drawing::draw_closing(list);
+    forms::put_list(page, 0, sheet, list, ended)
 }

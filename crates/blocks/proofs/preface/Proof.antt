@@ -8,4 +8,4 @@ returns : tie.Need-returns
 returns c = noted _ _ _ (c .note .ensures)
 
 pub preface-spec : {M : Type 1} → statement M
-preface-spec = tie.close (tie.spec (λ c. search needs) (λ c κs. search needs) (λ c κs. search needs) returns)
+preface-spec = tie.close (tie.spec (λ c κs. search needs) (λ c κs. search needs) returns)

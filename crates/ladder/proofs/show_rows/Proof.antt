@@ -1,28 +1,33 @@
--- `ladder::show_rows` is safe and ends: each row leaves fewer lines. Assumes nothing.
+-- `ladder::show_rows` is safe and ends: each page leaves fewer items. Assumes nothing.
 use mathlib.Core.Path.{sym}
 use lib.ListN.{length}
 use lib.Seq.{length-take-le}
-use borrow.Author.Tests.{not-false}
-use Rattle.pages.specs.Pages.{Ready, linesLeft}
-use Rattle.picture.proofs.Inked.{fewer}
 use borrow.Author.Needs.{needs}
+use borrow.Author.Tests.{not-false}
+use Rattle.run.specs.State.{Ready, itemsIn}
+use Rattle.picture.proofs.Inked.{fewer}
 use Rattle.ladder.proofs.show_rows.Statement.{statement}
 use Rattle.ladder.proofs.show_rows.Tie as tie
 
 abbrev Inv-loop : tie.InvT-loop
-Inv-loop sheet input total page₀ session₀ t8 page session = Ready session
+Inv-loop sheet input total page₀ list₀ session₀ t10 page list session = Ready session
 
 abbrev μ-loop : tie.MeasureT-loop
-μ-loop sheet input total page₀ session₀ t8 page session = length (linesLeft input session)
+μ-loop sheet input total page₀ list₀ session₀ t10 page list session = length (itemsIn input session)
 
 loop-holds : tie.Need-loop-holds Inv-loop μ-loop
-loop-holds c = record { law = c .begin .ensures .law; sound = c .begin .ensures .sound }
+loop-holds c = c .begin .ensures .ready
 
 slice-aggregate-write-2 : tie.Need-slice-aggregate-write-2 Inv-loop μ-loop
-slice-aggregate-write-2 c = sym (length-take-le _ _ (c .before .before .next-row .ensures .drawn .inside))
+slice-aggregate-write-2 c = sym (length-take-le _ _ (c .before .before .before .before .fill-page .ensures .inside))
 
 loop-less : tie.Need-loop-less Inv-loop μ-loop
-loop-less c = fewer (c .before .before .before .before .before .before .before .before .before .before .before .before .before .args .input .now) (c .before .before .before .before .before .before .before .before .before .loop .session) (c .before .before .before .before .before .before .before .before .before .before .before .before .before .args .sheet .now) _ (c .before .before .before .before .before .before .before .next-row .result) (c .before .before .before .before .before .before .before .next-row .ensures) (not-false _ (c .before .if2 .left))
+loop-less c =
+    let f = c .before .before .before .before .before .before .before .before .before .fill-page in
+    fewer (c .before .before .before .before .before .before .before .before .before .before .before .before .before .before .before .args .input .now) (c .before .before .before .before .before .before .before .before .before .before .before .before .loop .session) (c .before .before .before .before .before .before .before .before .before .before .before .before .before .before .before .args .sheet .now) _ (f .result) (f .ensures) (not-false _ (c .before .if2 .left))
+
+loop-again : tie.Need-loop-again Inv-loop μ-loop
+loop-again c = c .before .before .before .before .before .before .before .before .before .fill-page .ensures .ready
 
 pub show-rows-spec : {M : Type 1} → statement M
 show-rows-spec =
@@ -31,14 +36,12 @@ show-rows-spec =
     Inv-loop
     μ-loop
     (λ c κs. search needs)
-    (λ c κs. search needs)
     loop-holds
     (λ c κs. search needs)
-    (λ c. search needs)
     (λ c. search needs)
     slice-aggregate-write-2
     (λ c κs. search needs)
     (λ c. search needs)
     (λ c. search needs)
     loop-less
-    (λ c. search needs))
+    loop-again)

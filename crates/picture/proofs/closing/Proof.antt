@@ -8,4 +8,4 @@ returns : tie.Need-returns
 returns c = let d = c .before .before .before .before .before .draw-closing in drawn _ _ _ (d .last .0) (d .result) _ (c .put-list .ensures)
 
 pub closing-spec : {M : Type 1} → statement M
-closing-spec = tie.close (tie.spec (λ c. search needs) (λ c κs. search needs) (λ c. search needs) (λ c κs. search needs) returns)
+closing-spec = tie.close (tie.spec (λ c κs. search needs) (λ c κs. search needs) returns)
