@@ -19,7 +19,7 @@ use Rattle.router.specs.declared.Router.{Router}
 use Rattle.ruling.specs.Ruling.{Lent, lent, ruled}
 use Rattle.routing.specs.declared.Step.{Step}
 use Rattle.routing.specs.Steps.{OnMessage, OnGiveUp, OnReplaced}
-use Rattle.router.specs.Router.{Routes, GivesUp, Replaces}
+use Rattle.router.specs.Router.{Routes, GivesUp, Replaces, routedTo}
 use Rattle.sending.specs.Sending.{Sending}
 use Rattle.replies.specs.Replies.{Replies}
 use Rattle.queue.specs.declared.Event.{Event}
@@ -36,9 +36,9 @@ use Rattle.slots.specs.Slots.{SlotPart}
 use Rattle.joiner.specs.declared.Joiner.{Joiner}
 use Rattle.joiner.specs.declared.Answer.{Answer}
 use Rattle.joiner.specs.Joining.{Joins, PartFor, Asks}
-use Rattle.run.specs.declared.Cursor.{Cursor}
 use Rattle.run.specs.declared.Session.{Session}
-use Rattle.run.specs.State.{Turns}
+use Rattle.run.specs.declared.Went.{Went}
+use Rattle.run.specs.State.{Turns, turnOf}
 use Rattle.run.specs.Start as run
 use Rattle.pages.specs.Pages.{Paged}
 use Rattle.hexes.specs.declared.Cursor as hexes
@@ -89,6 +89,19 @@ pub record OneResult : Type 0 where
   pub route : (r : Router) (message before : List ℕ) → OneWith (λ out after. Routes r message before after out)
   pub give-up : (r : Router) (thread address : ℕ) (before : List ℕ) → OneWith (λ out after. GivesUp r thread address before after out)
   pub replaced : (r : Router) (address : ℕ) → One (Replaces r address)
+  -- the same in place: the answer, the list of places, the cells of the rows, the reply buffer
+  pub route-in : (r : Router) (n : ℕ) (s s′ : Step) (c c′ l l′ message before after after′ : List ℕ)
+      → Routes r message before after (routedTo s c n l)
+      → Routes r message before after′ (routedTo s′ c′ n l′)
+      → (s ≡ s′) × (l ≡ l′) × (c ≡ c′) × (after ≡ after′)
+  pub give-up-in : (r : Router) (n : ℕ) (s s′ : Step) (c c′ l l′ : List ℕ) (thread address : ℕ) (before after after′ : List ℕ)
+      → GivesUp r thread address before after (routedTo s c n l)
+      → GivesUp r thread address before after′ (routedTo s′ c′ n l′)
+      → (s ≡ s′) × (l ≡ l′) × (c ≡ c′) × (after ≡ after′)
+  pub replaced-in : (r : Router) (n : ℕ) (s s′ : Step) (c c′ l l′ : List ℕ) (address : ℕ)
+      → Replaces r address (routedTo s c n l)
+      → Replaces r address (routedTo s′ c′ n l′)
+      → (s ≡ s′) × (l ≡ l′) × (c ≡ c′)
   pub part-to-send : (o : Outcome) (message reply : RefT (List ℕ)) → OnePart (Sending o message reply)
   -- replies (with_part, with_code)
   pub reply : (h : Head) (part before : List ℕ) → OneWith (λ a after. Replies h part before after a)
@@ -113,7 +126,11 @@ pub record OneResult : Type 0 where
   pub get-next : (thread : ℕ) (before : List ℕ) → OneWith (λ w after. Asks thread before after w)
   -- run, pages
   pub session-begin : (input : List ℕ) → One (run.Begins input)
-  pub session-next : (input : List ℕ) (r : Router) (c : Cursor) → One (Turns input r c)
+  pub session-next : (input : List ℕ) (w : Session) → One (Turns input w)
+  pub session-next-in : (input : List ℕ) (w : Session) (n : ℕ) (x x′ : Went) (c c′ l l′ : List ℕ)
+      → Turns input w (turnOf x c n l)
+      → Turns input w (turnOf x′ c′ n l′)
+      → (x ≡ x′) × (l ≡ l′) × (c ≡ c′)
   pub fill-page : (input : List ℕ) (w : Session) (before : List ℕ) → OneWith (λ p after. Paged input w before after p)
   -- hexes
   pub hex-read : (text before : List ℕ) → OneWith (λ r after. Reads text before after r)
