@@ -1,7 +1,7 @@
 -- Of all that is written, the lines that begin with no space are the transcript, whatever the words are. Assumes nothing.
 -- What the contracts leave open: the words, and the bytes of a page behind its used part.
 use Prim.Native.Nat.{ℕ, _≤_, _<_}
-use mathlib.Core.Path.{_≡_, refl, sym, ap, _∙_}
+use mathlib.Core.Path.{_≡_, sym, ap, _∙_}
 use mathlib.Core.Bool.{true, false}
 use mathlib.Core.List.{List, [], _∷_, _++_, map, append-nil, append-assoc}
 use native.Mathlib.Omega.{arith}

@@ -32,20 +32,6 @@ noted old new used g =
     let h = front old new (indented (g .words)) used (g .text) (omega (arith, g .few, g .room, long (g .words))) in
     record { words = g .words; text = h .0; inside = h .1 }
 
--- words below a line
-pub put : (t : Turn) (old mid new : List ℕ) (at line used : ℕ) → pen mid line ≡ puts (pen old at) (lineWith (t .item) (t .reply))
-    → Written mid line new used
-    → Put t old at new used
-put t old mid new at line used e h =
-    let l : List ℕ = lineWith (t .item) (t .reply) in
-    let n : length mid ≡ length old = ap (λ (x : Pen). length (x .bytes)) e ∙ puts-length (pen old at) l in
-    record {
-      words = h .words;
-      few = h .few;
-      room = sym n ∙ h .room;
-      text = after-it (pen old at) (pen mid line) (pen new used) l (indented (h .words)) e (h .text);
-    }
-
 -- ---- the loop of `fill_page`
 
 -- used bytes of the page are the blocks from w to v
@@ -86,17 +72,20 @@ module _ (s page₀ : List ℕ) (w : Session) (page : List ℕ) (v : Session) (u
     pub page-turn : (page′ : List ℕ) (used′ : ℕ) → t .more ≡ true → Put t page used page′ used′ → Going s page₀ w page′ (t .next) used′
     page-turn page′ used′ y p =
         let l : List ℕ = lineOf (t .item) in
-        let d : List ℕ = l ++ indented (p .words) in
-        let f : pen page′ used′ ≡ puts (pen page used) d = p .text ∙ ap (λ (x : List ℕ). puts (pen page used) (lineWith (t .item) x ++ indented (p .words))) (g .answer) in
-        let b : length d ≤ 41025 = omega (arith, p .few, long (p .words), short (t .item) (g .little), length-append l (indented (p .words))) in
-        let at : used′ ≡ used + length d = ap (λ (x : Pen). x .at) f ∙ puts-at d page used (omega (arith, p .room)) in
+        let words : List ℕ = p .below .words in
+        let d : List ℕ = l ++ indented words in
+        let e : pen (p .mid) (p .end) ≡ puts (pen page used) l = p .line ∙ ap (λ (x : List ℕ). puts (pen page used) (lineWith (t .item) x)) (g .answer) in
+        let f : pen page′ used′ ≡ puts (pen page used) d = after-it (pen page used) (pen (p .mid) (p .end)) (pen page′ used′) l (indented words) e (p .below .text) in
+        let room : length page ≡ 65536 = sym (ap (λ (x : Pen). length (x .bytes)) e ∙ puts-length (pen page used) l) ∙ p .below .room in
+        let b : length d ≤ 41025 = omega (arith, p .below .few, long words, short (t .item) (g .little), length-append l (indented words)) in
+        let at : used′ ≡ used + length d = ap (λ (x : Pen). x .at) f ∙ puts-at d page used (omega (arith, room)) in
         let len : length page′ ≡ length page = ap (λ (x : Pen). length (x .bytes)) f ∙ puts-length (pen page used) d in
         record {
           text = go .text ++ d;
-          blocks = block v (go .text) (go .blocks) t g y (p .words);
+          blocks = block v (go .text) (go .blocks) t g y words;
           written = after-it (pen page₀ 0) (pen page used) (pen page′ used′) (go .text) d (go .written) f;
           size = omega (arith, at, go .size, length-append (go .text) d);
-          inside = omega (arith, at, len, p .room, b);
+          inside = omega (arith, at, len, room, b);
           ready = g .ready;
         }
 

@@ -61,10 +61,10 @@ pub record Noted (new : List ℕ) (used : ℕ) : Type 0 where
 
 -- the contract of `put_block`: the line of a turn's item, and words below it
 pub record Put (t : Turn) (old : List ℕ) (place : ℕ) (new : List ℕ) (used : ℕ) : Type 0 where
-  pub words : List ℕ
-  pub few : length words ≤ 8192
-  pub room : length old ≡ 65536
-  pub text : pen new used ≡ puts (pen old place) (lineWith (t .item) (t .reply) ++ indented words)
+  pub mid : List ℕ
+  pub end : ℕ
+  pub line : pen mid end ≡ puts (pen old place) (lineWith (t .item) (t .reply))
+  pub below : Written mid end new used
 
 -- blocks from a state to a later one, as the contract of `run::next` tells it: for each item its line and words below it, in whole lines
 pub data Blocks (s : List ℕ) (w : Session) : Session → List ℕ → Type 0 where

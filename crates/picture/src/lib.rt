@@ -25,11 +25,11 @@ pub fn count_rows(session: Session, input: &[u8]) -> usize
 {
     let mut next = session;
     loop {
-        let row = run::next(next, input);
-        if !row.more {
+        let turn = run::next(next, input);
+        if !turn.more {
             return next.cursor.step;
         }
-        next = row.next;
+        next = turn.next;
     }
 }
 

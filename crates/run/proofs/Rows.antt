@@ -17,7 +17,7 @@ use Rattle.table.proofs.Judged.{accepted, judge-reverse, none-proper}
 use Rattle.table.proofs.Read.{none-held, with-held, read-held, read-rows, read-next, judge-read}
 use Rattle.start.specs.declared.Started.{Started}
 use Rattle.router.specs.declared.Router.{Router}
-use Rattle.router.specs.Router.{viewOf, Lawful}
+use Rattle.router.specs.Router.{viewOf}
 use Rattle.start.specs.Start.{blank, startWith}
 use Rattle.start.proofs.Starts.{fresh-lawful, start-law, start-view}
 use Rattle.rules.specs.View.{View}

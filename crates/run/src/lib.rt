@@ -1,12 +1,12 @@
 // The run of a session file: its steps with their outcomes, one at a time, and no text.
 //
-// `begin` reads the rows and starts a router over them. Each call of `next` then hands out one item:
-// the outcome of a step, or how the run ends, or that nothing is left. The items that an input has
-// are a definition over its bytes, `runOf`; what is left of them in a state is `itemsLeft`.
+// `begin` reads the rows and starts a router over them. Each turn then hands out one item: the outcome
+// of a step, or how the run ends, or that nothing is left. The items that an input has are a definition
+// over its bytes, `runOf`; what is left of them in a state is `itemsIn`.
 //
-// A state is a router and a small cursor beside it, so that no call moves the router about. Its law
-// (`Lawful` of the router, `Sound` of the cursor) speaks of the state alone: any input may be given
-// to any state.
+// A state is a router and a small cursor beside it. A turn is `next_in`, over the router's arrays, which
+// a loop owns and lends, so that no message copies them; `next` is the same turn by value. The law of a
+// state (`Ready`) speaks of the state alone: any input may be given to any state.
 use fields::NextRow;
 use fields::NextStep;
 use router::Router;

@@ -1,11 +1,10 @@
 -- `blocks::put_block` meets its contract: the line of the turn's item, and words below it. Assumes nothing.
 use borrow.Author.Needs.{needs}
-use Rattle.blocks.proofs.Room.{put}
 use Rattle.blocks.proofs.put_block.Statement.{statement}
 use Rattle.blocks.proofs.put_block.Tie as tie
 
 returns : tie.Need-returns
-returns c = put (c .before .before .before .before .before .before .before .before .before .before .before .before .before .before .args .turn) _ _ _ _ _ _ (c .before .before .before .before .before .before .before .before .put-line .ensures) (c .note .ensures)
+returns c = record { mid = _; end = _; line = c .before .before .before .before .before .before .before .before .put-line .ensures; below = c .note .ensures }
 
 pub put-block-spec : {M : Type 1} → statement M
 put-block-spec =

@@ -1,6 +1,6 @@
 -- `table::is_open` meets its contract: what is known so far is what the rows passed tell. Assumes nothing.
 use Prim.Native.Nat.{_≤_, _-_}
-use mathlib.Core.Path.{_≡_, sym, _∙_}
+use mathlib.Core.Path.{_≡_, _∙_}
 use mathlib.Core.Logic.{⊎-elim}
 use native.Mathlib.Omega.{arith}
 use Rattle.table.proofs.Cells.{open-at, not-open-at}
