@@ -25,11 +25,11 @@ use Rattle.blocks.proofs.Shows.{Shows, shows-more, shows-heads, words-h
 
 few-left : (s : List ℕ) (w v : Session) (text : List ℕ) → Blocks s w v text → length (itemsIn s v) ≤ length (itemsIn s w)
 few-left s w v text none = omega arith
-few-left s w v text (block u x h t g y words) = omega (arith, few-left s w u x h, fewer-left s u t g y)
+few-left s w v text (block u x h b t g y words) = omega (arith, few-left s w u x h, fewer-left s u t g y)
 
 fewer-told : (s : List ℕ) (w v : Session) (text : List ℕ) → Blocks s w v text → 1 ≤ length text → length (itemsIn s v) < length (itemsIn s w)
 fewer-told s w v text none k = absurd (omega arith)
-fewer-told s w v text (block u x h t g y words) k = omega (arith, few-left s w u x h, fewer-left s u t g y)
+fewer-told s w v text (block u x h b t g y words) k = omega (arith, few-left s w u x h, fewer-left s u t g y)
 
 pub fewer : (s : List ℕ) (w : Session) (page : List ℕ) (p : Page) → Told s w page p → p .more ≡ true
     → length (itemsIn s (p .next)) < length (itemsIn s w)
@@ -65,7 +65,7 @@ module _ (s : List ℕ) (w : Session) (text : List ℕ) (f : So-far s w text) (t
 -- one page more
 page-more : (s : List ℕ) (w v : Session) (before text : List ℕ) → So-far s w before → Blocks s w v text → So-far s v (before ++ text)
 page-more s w v before text f none = rw (append-nil before) f
-page-more s w v before text f (block u x h t g y words) =
+page-more s w v before text f (block u x h b t g y words) =
     rw (← append-assoc before x (lineOf (t .item) ++ indented words)) (one-more s u (before ++ x) (page-more s w u before x f h) t g y words)
 
 so-far : (s : List ℕ) (w : Session) (parts : List (List ℕ)) → Explained s w parts → So-far s w (joined parts)

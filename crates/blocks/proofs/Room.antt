@@ -82,7 +82,7 @@ module _ (s page₀ : List ℕ) (w : Session) (page : List ℕ) (v : Session) (u
         let len : length page′ ≡ length page = ap (λ (x : Pen). length (x .bytes)) f ∙ puts-length (pen page used) d in
         record {
           text = go .text ++ d;
-          blocks = block v (go .text) (go .blocks) t g y words;
+          blocks = block v (go .text) (go .blocks) (omega (arith, go .size, h)) t g y words;
           written = after-it (pen page₀ 0) (pen page used) (pen page′ used′) (go .text) d (go .written) f;
           size = omega (arith, at, go .size, length-append (go .text) d);
           inside = omega (arith, at, len, room, b);

@@ -66,16 +66,16 @@ pub record Put (t : Turn) (old : List ℕ) (place : ℕ) (new : List ℕ) (used 
   pub line : pen mid end ≡ puts (pen old place) (lineWith (t .item) (t .reply))
   pub below : Written mid end new used
 
--- blocks from a state to a later one, as the contract of `run::next` tells it: for each item its line and words below it, in whole lines
+-- blocks from a state to a later one, as the contract of `run::next` tells it: for each item its line and words below it, in whole lines. A block
+-- is begun while 24,511 bytes or fewer are used
 pub data Blocks (s : List ℕ) (w : Session) : Session → List ℕ → Type 0 where
   none : Blocks s w w []
-  block : (v : Session) (text : List ℕ) → Blocks s w v text
+  block : (v : Session) (text : List ℕ) → Blocks s w v text → length text ≤ 24511
       → (t : Turn) → Turns s v t → t .more ≡ true
       → (words : List ℕ)
       → Blocks s w (t .next) (text ++ (lineOf (t .item) ++ indented words))
 
--- the contract of `fill_page`: blocks, and nothing else. A block is begun while 24,511 bytes or fewer are used; where the page says that there
--- is no more, nothing is left
+-- the contract of `fill_page`: blocks, and nothing else. There is more where over 24,511 bytes are used; where there is no more, nothing is left
 pub record Told (s : List ℕ) (w : Session) (new : List ℕ) (p : Page) : Type 0 where
   pub blocks : Blocks s w (p .next) (take (p .used) new)
   pub inside : p .used ≤ length new

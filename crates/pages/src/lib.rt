@@ -10,7 +10,8 @@ use run::Session;
 ghost use Rattle.run.specs.State.{Ready};
 ghost use Rattle.pages.specs.Pages.{Paged};
 
-// How many bytes of a page are used, and whether it was full before the end of the lines was seen.
+// How many bytes of a page are used, whether it was full before the end of the lines was seen, and the
+// next state.
 pub struct Page {
     pub used: usize,
     pub more: bool,

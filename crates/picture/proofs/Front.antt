@@ -81,6 +81,14 @@ drawn sheet old new list count used e = record {
 
 -- ---- the loop of `fill_page`
 
+-- where fewer bytes are used than the page has, all was written
+whole : (old new t : List ℕ) (used : ℕ) → pen new used ≡ puts (pen old 0) t → length new ≡ 65536 → used ≤ 32768 → length t ≤ 32768
+whole old new t used e r h =
+    let n : length new ≡ length old = same-length old new t used e in
+    cases (ltb (length old) (length t))
+    (λ b. let a : used ≡ length old = ap (λ (x : Pen). x .at) (e ∙ over-end old t (omega (arith, ltb-true (length old) (length t) b))) in absurd (omega (arith, a, n, r, h)))
+    (λ b. let a : used ≡ length t = ap (λ (x : Pen). x .at) (e ∙ puts-fit old t (ltb-false (length old) (length t) b)) in omega (arith, a, h))
+
 -- used bytes of the page are the rows from w to v
 pub record Going (s sheet page₀ : List ℕ) (w : Session) (page : List ℕ) (v : Session) (used : ℕ) : Type 0 where
   pub all : List ℕ
@@ -103,19 +111,19 @@ module _ (s sheet page₀ : List ℕ) (w : Session) (page : List ℕ) (v : Sessi
     ready = go .ready;
   }
 
-  module _ (t : Turn) (g : Turns s v t) where
+  module _ (t : Turn) (g : Turns s v t) (h : used ≤ 32768) where
     pub page-turn : (page′ : List ℕ) (used′ : ℕ) → t .more ≡ true → Added sheet page used page′ used′ → Going s sheet page₀ w page′ (t .next) used′
     page-turn page′ used′ y a =
         let f : List ℕ = formsText sheet (a .list) (a .count) in
         record {
           all = go .all ++ f;
-          rows = row v (go .all) (go .rows) t g y (a .list) (a .count);
+          rows = row v (go .all) (go .rows) (whole page₀ page (go .all) used (go .written) (a .room) h) t g y (a .list) (a .count);
           written = after-it (pen page₀ 0) (pen page used) (pen page′ used′) (go .all) f (go .written) (a .text);
           ready = g .ready;
         }
 
-    pub page-stop : t .more ≡ false → used ≤ 32768 → Part s w sheet page (record { used = used; more = false; next = v })
-    page-stop y h = record {
+    pub page-stop : t .more ≡ false → Part s w sheet page (record { used = used; more = false; next = v })
+    page-stop y = record {
       all = go .all;
       rows = go .rows;
       text = front page₀ page (go .all) used (go .written);

@@ -25,12 +25,12 @@ use Rattle.picture.specs.Picture.{Forms, no-form, more-forms, Drawn, For
 
 few-left : (s sheet : List ℕ) (w v : Session) (text : List ℕ) → Rows s sheet w v text → length (itemsIn s v) ≤ length (itemsIn s w)
 few-left s sheet w v text none = omega arith
-few-left s sheet w v text (row u x h t g y list count) = omega (arith, few-left s sheet w u x h, fewer-left s u t g y)
+few-left s sheet w v text (row u x h b t g y list count) = omega (arith, few-left s sheet w u x h, fewer-left s u t g y)
 
 fewer-drawn : (s sheet : List ℕ) (w v : Session) (text : List ℕ) → Rows s sheet w v text → (n : ℕ) → 1 ≤ length (take n text)
     → length (itemsIn s v) < length (itemsIn s w)
 fewer-drawn s sheet w v text none n k = absurd (omega (arith, ap length (take-nil {A = ℕ} n)))
-fewer-drawn s sheet w v text (row u x h t g y list count) n k = omega (arith, few-left s sheet w u x h, fewer-left s u t g y)
+fewer-drawn s sheet w v text (row u x h b t g y list count) n k = omega (arith, few-left s sheet w u x h, fewer-left s u t g y)
 
 pub fewer : (s : List ℕ) (w : Session) (sheet page : List ℕ) (p : Page) → Part s w sheet page p → p .more ≡ true
     → length (itemsIn s (p .next)) < length (itemsIn s w)
@@ -54,7 +54,7 @@ inked-part sheet new used d = rw (d .text) (all-take (Ink sheet) (length new) (d
 -- rows are forms
 row-forms : (s sheet : List ℕ) (w v : Session) (text : List ℕ) → Rows s sheet w v text → Forms sheet text
 row-forms s sheet w v text none = no-form
-row-forms s sheet w v text (row u x h t g y list count) = more-forms x (row-forms s sheet w u x h) list count
+row-forms s sheet w v text (row u x h b t g y list count) = more-forms x (row-forms s sheet w u x h) list count
 
 drawn-part : (s : List ℕ) (w : Session) (sheet page : List ℕ) (p : Page) → Part s w sheet page p → Drawn sheet page (p .used)
 drawn-part s w sheet page p g = record {

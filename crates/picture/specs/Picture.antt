@@ -36,18 +36,19 @@ pub record Formed (sheet text : List ℕ) : Type 0 where
 pub record Added (sheet old : List ℕ) (place : ℕ) (new : List ℕ) (used : ℕ) : Type 0 where
   pub list : List ℕ
   pub count : ℕ
+  pub room : length old ≡ 65536
   pub text : pen new used ≡ puts (pen old place) (formsText sheet list count)
 
--- rows from a state to a later one, as the contract of `run::next` tells it: for each item a list of forms
+-- rows from a state to a later one, as the contract of `run::next` tells it: for each item a list of forms. A row is begun while 32,768 bytes or
+-- fewer are used, so only a row longer than half a page could be cut
 pub data Rows (s sheet : List ℕ) (w : Session) : Session → List ℕ → Type 0 where
   none : Rows s sheet w w []
-  row : (v : Session) (text : List ℕ) → Rows s sheet w v text
+  row : (v : Session) (text : List ℕ) → Rows s sheet w v text → length text ≤ 32768
       → (t : Turn) → Turns s v t → t .more ≡ true
       → (list : List ℕ) (count : ℕ)
       → Rows s sheet w (t .next) (text ++ formsText sheet list count)
 
--- the contract of `fill_page`: rows, and nothing else. A row is begun while 32,768 bytes or fewer are used; where the page says that there is no
--- more, nothing is left
+-- the contract of `fill_page`: rows, and nothing else. There is more where over 32,768 bytes are used; where there is no more, nothing is left
 pub record Part (s : List ℕ) (w : Session) (sheet new : List ℕ) (p : Page) : Type 0 where
   pub all : List ℕ
   pub rows : Rows s sheet w (p .next) all

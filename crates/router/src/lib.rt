@@ -57,6 +57,7 @@ pub fn route_in(
     routing::on_message(cells, count, list, len, message, reply)
 }
 
+// A give up looks at no row; cells and count are lent since the law of a state speaks of them too.
 pub fn give_up_in(
     cells: &[u32; 16],
     count: usize,

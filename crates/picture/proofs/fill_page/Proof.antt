@@ -24,7 +24,7 @@ returns : tie.Need-returns Inv-loop μ-loop
 returns c =
     let a = c .before .before .before .before .before .before .args in
     let l = c .before .before .before .before .loop in
-    page-stop (a .input .now) (a .sheet .now) (a .page .now) (a .session) (l .page) (l .next) (l .used) (l .inv) (c .before .before .next .result) (c .before .before .next .ensures) (not-true _ (c .if1 .taken)) (c .before .before .before .loop-test .taken)
+    page-stop (a .input .now) (a .sheet .now) (a .page .now) (a .session) (l .page) (l .next) (l .used) (l .inv) (c .before .before .next .result) (c .before .before .next .ensures) (c .before .before .before .loop-test .taken) (not-true _ (c .if1 .taken))
 
 loop-less : tie.Need-loop-less Inv-loop μ-loop
 loop-less c = fewer-left (c .before .before .before .before .before .before .before .before .before .before .args .input .now) (c .before .before .before .before .before .before .before .before .loop .next) (c .before .before .before .before .before .before .next .result) (c .before .before .before .before .before .before .next .ensures) (not-false _ (c .before .before .before .before .if1 .left))
@@ -33,7 +33,7 @@ loop-again : tie.Need-loop-again Inv-loop μ-loop
 loop-again c =
     let a = c .before .before .before .before .before .before .before .before .before .before .args in
     let l = c .before .before .before .before .before .before .before .before .loop in
-    page-turn (a .input .now) (a .sheet .now) (a .page .now) (a .session) (l .page) (l .next) (l .used) (l .inv) (c .before .before .before .before .before .before .next .result) (c .before .before .before .before .before .before .next .ensures) _ _ (not-false _ (c .before .before .before .before .if1 .left)) (c .before .put-row .ensures)
+    page-turn (a .input .now) (a .sheet .now) (a .page .now) (a .session) (l .page) (l .next) (l .used) (l .inv) (c .before .before .before .before .before .before .next .result) (c .before .before .before .before .before .before .next .ensures) (c .before .before .before .before .before .before .before .loop-test .taken) _ _ (not-false _ (c .before .before .before .before .if1 .left)) (c .before .put-row .ensures)
 
 returns-2 : tie.Need-returns-2 Inv-loop μ-loop
 returns-2 c =
