@@ -206,14 +206,14 @@ fn put_byte(line: &mut [u8], at: usize, byte: u8) -> usize {
 
 // Writes a message that is read: its addresses, type, thread and data.
 pub fn put_message(line: &mut [u8], message: &[u8]) -> usize {
-    match message::read(message) {
+    match message_reader::read(message) {
         Reading::Refused(refusal) => put_came(line, 0, refused(refusal)),
         Reading::Message(head) => {
             let a = lines::put_address(line, 0, b" message ", head.destination);
             let b = lines::put_address(line, a, b" ", head.source);
             let c = put_byte(line, b, head.kind);
             let d = put_byte(line, c, head.thread);
-            put_bytes(line, d, message::data_part(message))
+            put_bytes(line, d, message_reader::data_part(message))
         }
     }
 }

@@ -86,14 +86,14 @@ fn of_torn(message: &[u8]) -> Arrival {
 }
 
 fn of_message(message: &[u8]) -> Arrival {
-    let reading = message::read(message);
+    let reading = message_reader::read(message);
     let Reading::Message(head) = reading else {
         return of_torn(message);
     };
     if head.kind != tapa::RESPONSE {
         return of_head(What::Command, head, 0);
     }
-    match message::response_code(message::data_part(message)) {
+    match message_reader::response_code(message_reader::data_part(message)) {
         Coded::Code(code) => of_head(What::Response, head, code),
         Coded::Missing => of_head(What::Uncoded, head, 0),
     }

@@ -216,7 +216,7 @@ impl Parts {
         ensures { λ r. ⌜ Right (r .next) ⌝ }
     {
         let mut none = [0u8; 1];
-        let first = cutter::first_command(message, &mut none);
+        let first = psam_commands::first_command(message, &mut none);
         let start = first.start;
         let came = answers::of_start(start);
         let mut next = self;
@@ -236,7 +236,7 @@ impl Parts {
         ensures { λ r. ⌜ Right (r .next) ⌝ }
     {
         let before = self.joiner;
-        let kept = before.keep(message);
+        let kept = psam_sources::keep(before, message);
         let after = kept.next;
         let answer = kept.answer;
         let came = answers::of_keeping(answer);
@@ -250,7 +250,7 @@ impl Parts {
         requires { ⌜ Right self ⌝ }
         ensures { λ r. ⌜ Right r ⌝ }
     {
-        let rows = table::with_row(self.rows, Row { address, opened });
+        let rows = router_rows::with_row(self.rows, Row { address, opened });
         let mut next = self;
         next.rows = rows;
         next
@@ -264,7 +264,7 @@ impl Parts {
         let begun = start::start_with(self.rows);
         let answer = begun.answer;
         let router = begun.router;
-        let rows = table::no_rows();
+        let rows = router_rows::no_rows();
         let came = answers::of_checked(answer);
         let mut next = self;
         next.rows = rows;
@@ -327,7 +327,7 @@ impl Parts {
 
 // Tag 11: a message written.
 fn write(asked: &[u8], buffer: &mut [u8]) -> Came {
-    let writing = message::write(
+    let writing = message_writer::write(
         buffer,
         word_at(asked, 0),
         word_at(asked, 2),
@@ -341,7 +341,7 @@ fn write(asked: &[u8], buffer: &mut [u8]) -> Came {
 // What a piece came to. The buffer is said as the message that is handed on, and then the rest.
 fn put_joined(line: &mut [u8], answer: joiner::Answer, joined: usize, work: &[u8]) -> usize {
     let a = answers::put_came(line, 0, answers::of_joined(answer, joined));
-    let part = joiner::joined_part(answer, work);
+    let part = psam_pieces::joined_part(answer, work);
     if part.len() == 0 {
         return answers::put_bytes(line, a, work);
     }
@@ -374,7 +374,7 @@ impl Parts {
         ensures { λ r. ⌜ Right (r .next) ⌝ }
     {
         let queue = self.queue;
-        let handled = events::handle(queue, message, buffer);
+        let handled = event_answers::handle(queue, message, buffer);
         let after = handled.next;
         let answer = handled.answer;
         let came = answers::of_reply(answer);
@@ -391,7 +391,7 @@ impl Parts {
     {
         let mut next = self;
         if self.cut == 0 {
-            let first = cutter::first_command(message, buffer);
+            let first = psam_commands::first_command(message, buffer);
             let cut = first.cut;
             next.cut = first.next;
             return Asked {
@@ -399,8 +399,8 @@ impl Parts {
                 next,
             };
         }
-        let part = cutter::part_to_cut(message);
-        let handed = cutter::cut_next(part, self.thread, self.cut, buffer);
+        let part = psam_commands::part_to_cut(message);
+        let handed = psam_commands::cut_next(part, self.thread, self.cut, buffer);
         let cut = handed.cut;
         next.cut = handed.next;
         Asked {
@@ -422,7 +422,7 @@ impl Parts {
             0x12 => self.on_event(asked, buffer),
             0x14 => self.on_command(message, buffer),
             _ => {
-                let writing = joiner::get_next(byte_at(asked, 0), buffer);
+                let writing = psam_pieces::get_next(byte_at(asked, 0), buffer);
                 Asked {
                     came: answers::of_writing(answers::COMMAND, writing),
                     next: self,
@@ -437,7 +437,7 @@ impl Parts {
         ensures { λ r. ⌜ Right (r .next) ⌝ }
     {
         let before = self.joiner;
-        let done = before.join(piece, work);
+        let done = psam_pieces::join(before, piece, work);
         let after = done.next;
         let answer = done.answer;
         let mut next = self;
@@ -542,7 +542,7 @@ fn ask_store(b: Book, area: &mut [u8], line: &mut [u8], message: &[u8], reply: &
     requires { ⌜ books.Lawful b (now area) ⌝ }
     ensures { λ r. ⌜ books.Lawful (r .next) (now (area .exit)) ⌝ }
 {
-    let handled = store::handle(b, area, message, reply);
+    let handled = store_answers::handle(b, area, message, reply);
     let answer = handled.answer;
     let next = handled.next;
     let a = answers::put_came(line, 0, answers::of_reply(answer));
@@ -748,9 +748,9 @@ impl Bench {
 pub fn fresh() -> Bench
     ensures { λ r. ⌜ (Ready r) × (r .number ≡ 1) ⌝ }
 {
-    let queue = queue::fresh();
-    let joiner = joiner::fresh();
-    let rows = table::no_rows();
+    let queue = event_ring::fresh();
+    let joiner = psam_pieces::fresh();
+    let rows = router_rows::no_rows();
     let begun = start::start_with(rows);
     let router = begun.router;
     let book = book::fresh();

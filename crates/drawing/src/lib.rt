@@ -156,7 +156,7 @@ fn draw_places(list: &mut [usize], n: usize, router: Router, y: u16) -> usize {
     let mut next = n;
     let mut i = 0;
     while i < 48 {
-        let place = place::place_of(places[i]);
+        let place = router_tests::place_of(places[i]);
         next = draw_used(list, next, router, place, i < router.len, y);
         i += 1;
     }

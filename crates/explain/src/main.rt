@@ -11,14 +11,14 @@
 
 // Prints the blocks of one input; false where they cannot be written.
 fn show(sheet: &[u8; 65536], input: &[u8], page: &mut [u8; 65536], words: &mut [u8; 8192]) -> bool {
-    let rows = blocks::preface(input, sheet, page, words);
+    let rows = show_blocks::preface(input, sheet, page, words);
     let front = &page[..];
     if !inputs::write(b"explain", &front[..rows]) {
         return false;
     }
-    let mut session = run::begin(input);
+    let mut session = session_begun::begin(input);
     loop {
-        let filled = blocks::fill_page(session, input, sheet, page, words);
+        let filled = show_blocks::fill_page(session, input, sheet, page, words);
         let used = filled.used;
         let all = &page[..];
         if !inputs::write(b"explain", &all[..used]) {

@@ -137,7 +137,7 @@ fn hear(
     ensures { λ r. ⌜ Hearing number (heard b (now (area .entry)) (now (message .entry))) (now (page .entry)) at (now (area .exit)) (now (page .exit)) r ⌝ }
 {
     let mut reply = [0u8; 398];
-    let handled = store::handle(b, area, message, &mut reply);
+    let handled = store_answers::handle(b, area, message, &mut reply);
     let book = handled.next;
     let answer = handled.answer;
     let a = text::put_decimal(page, at, number);

@@ -85,17 +85,17 @@ pub fn refusal_name(number: u8) -> usize {
 
 // Table 2: the categories.
 fn write_categories(sheet: &mut [u8]) {
-    forms::engrave(
+    show_sheet::engrave(
         sheet,
         CATEGORIES,
         b"security module|till driver|card handler|user interface handler",
     );
-    forms::engrave(
+    show_sheet::engrave(
         sheet,
         CATEGORIES + 4,
         b"merchant application handler|data store handler",
     );
-    forms::engrave(
+    show_sheet::engrave(
         sheet,
         CATEGORIES + 6,
         b"communication handler|event handler|handler of an unknown category",
@@ -104,22 +104,22 @@ fn write_categories(sheet: &mut [u8]) {
 
 // Table 2: the devices that have an address of their own.
 fn write_devices(sheet: &mut [u8]) {
-    forms::engrave(
+    show_sheet::engrave(
         sheet,
         DEVICES + 1,
         b" (Magnetic stripe Reader)| (Processor Card Reader)",
     );
-    forms::engrave(
+    show_sheet::engrave(
         sheet,
         DEVICES + 3,
         b" (Memory Card Reader)| (Contactless Card Reader)",
     );
-    forms::engrave(
+    show_sheet::engrave(
         sheet,
         DEVICES + 5,
         b" (PIN Pad)| (Customer Printer)| (Customer Key Pad)| (Customer Display)",
     );
-    forms::engrave(
+    show_sheet::engrave(
         sheet,
         DEVICES + 9,
         b" (Merchant Key Pad)| (Merchant Printer)| (Merchant Log)| (Merchant Display)",
@@ -128,43 +128,43 @@ fn write_devices(sheet: &mut [u8]) {
 
 // Table 4, and the types of section 4.4.
 fn write_card_types(sheet: &mut [u8]) {
-    forms::engrave(sheet, TYPES, b"an unknown type");
-    forms::engrave(
+    show_sheet::engrave(sheet, TYPES, b"an unknown type");
+    show_sheet::engrave(
         sheet,
         TYPES + 0x40,
         b"Read Magnetic Stripe|Write Magnetic Stripe|ICC Command|ICC Power-On|ICC Power-Off",
     );
-    forms::engrave(
+    show_sheet::engrave(
         sheet,
         TYPES + 0x45,
         b"ICC Query|Verify Offline PIN|ICC Command partially encrypted|ICC Command fully encrypted",
     );
-    forms::engrave(
+    show_sheet::engrave(
         sheet,
         TYPES + 0xF0,
         b"Open Handler|Close Handler||Write Handler String|Read Handler String|Get Handler Addresses",
     );
-    forms::engrave(sheet, TYPES + 0xFF, b"Response Message");
+    show_sheet::engrave(sheet, TYPES + 0xFF, b"Response Message");
 }
 
 // Table 5: user interface and merchant.
 fn write_desk_types(sheet: &mut [u8]) {
-    forms::engrave(
+    show_sheet::engrave(
         sheet,
         TYPES + 0x60,
         b"Confirm Amount|Display Message||Print Message|Purge Print Buffer|Get Key Check Value",
     );
-    forms::engrave(
+    show_sheet::engrave(
         sheet,
         TYPES + 0x66,
         b"Verify PSAM Public Key Certificate|Get PIN Pad Public Key Record|Submit Initial Key",
     );
-    forms::engrave(
+    show_sheet::engrave(
         sheet,
         TYPES + 0x69,
         b"Initiate PIN Entry|Get PIN||Terminate PIN Entry",
     );
-    forms::engrave(
+    show_sheet::engrave(
         sheet,
         TYPES + 0x80,
         b"Get Amount|Transaction Completed|Funds Available",
@@ -173,12 +173,12 @@ fn write_desk_types(sheet: &mut [u8]) {
 
 // Table 5: the data store.
 fn write_store_types(sheet: &mut [u8]) {
-    forms::engrave(
+    show_sheet::engrave(
         sheet,
         TYPES + 0x90,
         b"Create File|Delete File|Add File Record|Get File Record|Update File Record",
     );
-    forms::engrave(
+    show_sheet::engrave(
         sheet,
         TYPES + 0x95,
         b"Find and Get File Record|Delete File Record|Find and Delete File Record|Clear File",
@@ -187,12 +187,12 @@ fn write_store_types(sheet: &mut [u8]) {
 
 // Table 6.
 fn write_event_types(sheet: &mut [u8]) {
-    forms::engrave(
+    show_sheet::engrave(
         sheet,
         TYPES + 0xB0,
         b"Initiate Communication Session|Terminate Communication Session",
     );
-    forms::engrave(
+    show_sheet::engrave(
         sheet,
         TYPES + 0xC0,
         b"Add Event to Queue|Get Event from Queue|Find Event on Queue|Flush Event Queue",
@@ -201,47 +201,47 @@ fn write_event_types(sheet: &mut [u8]) {
 
 // Table 1, and the handlers' own tables.
 fn write_codes(sheet: &mut [u8]) {
-    forms::engrave(
+    show_sheet::engrave(
         sheet,
         CODES,
         b"Successful|Invalid Source Address|Invalid Destination Address|Handler Error|Handler busy",
     );
-    forms::engrave(
+    show_sheet::engrave(
         sheet,
         CODES + 5,
         b"Insufficient resources|Handler must be opened|Unsupported operation",
     );
-    forms::engrave(
+    show_sheet::engrave(
         sheet,
         CODES + 8,
         b"Invalid record pointer|Invalid File ID|Record too large|Search key too large",
     );
-    forms::engrave(
+    show_sheet::engrave(
         sheet,
         CODES + 12,
         b"File seek error|Search key already existing|No Events in Queue|No Matching Events in Queue",
     );
-    forms::engrave(sheet, CODES + 16, b"a code of the device");
+    show_sheet::engrave(sheet, CODES + 16, b"a code of the device");
 }
 
 // What the support book calls each refusal.
 fn write_refusals(sheet: &mut [u8]) {
-    forms::engrave(
+    show_sheet::engrave(
         sheet,
         REFUSALS + 1,
         b"the message is too short|it announces more than 1,024 bytes|it has fewer bytes than it announces",
     );
-    forms::engrave(
+    show_sheet::engrave(
         sheet,
         REFUSALS + 4,
         b"the address is not in the table|the thread is above 7|the response has no code",
     );
-    forms::engrave(
+    show_sheet::engrave(
         sheet,
         REFUSALS + 7,
         b"a stray response|the response is not for its asker|the lent buffer is too small",
     );
-    forms::engrave(
+    show_sheet::engrave(
         sheet,
         REFUSALS + 10,
         b"the event cannot be taken|no row, or more than 16, or one that no table may have",
@@ -249,22 +249,22 @@ fn write_refusals(sheet: &mut [u8]) {
 }
 
 fn write_more_refusals(sheet: &mut [u8]) {
-    forms::engrave(
+    show_sheet::engrave(
         sheet,
         REFUSALS + 12,
         b"one address stands in two rows|more than 4 security modules and till drivers",
     );
-    forms::engrave(
+    show_sheet::engrave(
         sheet,
         REFUSALS + 14,
         b"nothing to give up|the message is not for this part|it stands in an open question",
     );
-    forms::engrave(
+    show_sheet::engrave(
         sheet,
         REFUSALS + 17,
         b"no source was kept|the status cannot be used|it has more bytes than it announces",
     );
-    forms::engrave(
+    show_sheet::engrave(
         sheet,
         REFUSALS + 20,
         b"it still holds a question of its own",

@@ -31,7 +31,7 @@ pub fn fill_page(session: Session, input: &[u8], page: &mut [u8]) -> Page
     let mut cursor = session.cursor;
     let mut used = 0;
     while 64 <= page.len() - used {
-        let went = run::next_in(&mut cells, count, &mut list, len, cursor, input);
+        let went = session_turns::next_in(&mut cells, count, &mut list, len, cursor, input);
         let item = went.item;
         let reply = went.reply;
         cursor = went.cursor;
@@ -40,7 +40,7 @@ pub fn fill_page(session: Session, input: &[u8], page: &mut [u8]) -> Page
             return Page {
                 used,
                 more: false,
-                next: run::session_of(cells, count, list, len, cursor),
+                next: session_turns::session_of(cells, count, list, len, cursor),
             };
         }
         used = transcript::put_line(page, used, item, &reply);
@@ -48,6 +48,6 @@ pub fn fill_page(session: Session, input: &[u8], page: &mut [u8]) -> Page
     Page {
         used,
         more: true,
-        next: run::session_of(cells, count, list, len, cursor),
+        next: session_turns::session_of(cells, count, list, len, cursor),
     }
 }

@@ -7,7 +7,7 @@
 
 // Prints the lines of one input; false where they cannot be written.
 fn show(program: &[u8], input: &[u8], page: &mut [u8; 65536]) -> bool {
-    let mut session = run::begin(input);
+    let mut session = session_begun::begin(input);
     loop {
         let filled = pages::fill_page(session, input, page);
         let used = filled.used;

@@ -25,20 +25,20 @@ enum Test {
 fn passes(x: u64, test: Test, address: u16, thread: u8) -> bool {
     let handler = tapa::handler(address);
     match test {
-        Test::KeepsBusy => place::on_slot(x, handler, thread),
-        Test::InTree => place::has_on(x, thread, handler),
-        Test::Holds => place::holds_on(x, thread, handler),
-        Test::AsksExactly => place::asks_exactly(x, address, thread),
+        Test::KeepsBusy => router_tests::on_slot(x, handler, thread),
+        Test::InTree => router_tests::has_on(x, thread, handler),
+        Test::Holds => router_tests::holds_on(x, thread, handler),
+        Test::AsksExactly => router_tests::asks_exactly(x, address, thread),
         Test::Asks => asks(x, handler, thread),
-        Test::Stands => place::has_open(x, handler),
-        Test::Open => place::open_on(x, thread),
+        Test::Stands => router_tests::has_open(x, handler),
+        Test::Open => router_tests::open_on(x, thread),
     }
 }
 
 // Whether it is a wait of this thread that asks this handler, by either of its addresses.
 fn asks(x: u64, handler: u16, thread: u8) -> bool {
-    let place = place::place_of(x);
-    place::open_on(x, thread) && tapa::handler(place.asked) == handler
+    let place = router_tests::place_of(x);
+    router_tests::open_on(x, thread) && tapa::handler(place.asked) == handler
 }
 
 // The number of the oldest place that passes a test; 48 where none does.
@@ -58,9 +58,9 @@ fn find(router: Router, test: Test, address: u16, thread: u8) -> usize {
 fn place_at(router: Router, i: usize) -> Place {
     let list = router.list;
     if i < 48 {
-        return place::place_of(list[i]);
+        return router_tests::place_of(list[i]);
     }
-    place::place_of(0)
+    router_tests::place_of(0)
 }
 
 // ---- turned back
@@ -244,7 +244,7 @@ fn tell_no_queue(words: &mut [u8], at: usize, sheet: &[u8], router: Router) -> u
     let cells = router.cells;
     let count = router.count;
     let queue = tapa::EVENT_HANDLER;
-    if count <= 16 && table::is_listed(&cells, count, queue) {
+    if count <= 16 && router_rows::is_listed(&cells, count, queue) {
         return sentences::say(words, at, sheet, &[sentences::IS_CLOSED, queue as usize]);
     }
     sentences::say(words, at, sheet, &[sentences::NO_SUCH, queue as usize])

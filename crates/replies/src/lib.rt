@@ -25,7 +25,7 @@ pub enum Answer {
 pub fn with_part(reply: &mut [u8], head: Head, part: &[u8]) -> Answer
     ensures { λ r. ⌜ Replies head (now (part .entry)) (now (reply .entry)) (now (reply .exit)) r ⌝ }
 {
-    match message::write(
+    match message_writer::write(
         reply,
         head.source,
         head.destination,

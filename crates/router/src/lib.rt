@@ -54,7 +54,7 @@ pub fn route_in(
     requires { ⌜ Lawful (stateOf (now cells) count (now list) len) ⌝ }
     ensures { λ s. ⌜ Routes (stateOf (now (cells .entry)) count (now (list .entry)) len) (now (message .entry)) (now (reply .entry)) (now (reply .exit)) (routedTo s (now (cells .exit)) count (now (list .exit))) ⌝ }
 {
-    routing::on_message(cells, count, list, len, message, reply)
+    router_command::on_message(cells, count, list, len, message, reply)
 }
 
 // A give up looks at no row; cells and count are lent since the law of a state speaks of them too.
@@ -70,7 +70,7 @@ pub fn give_up_in(
     requires { ⌜ Lawful (stateOf (now cells) count (now list) len) ⌝ }
     ensures { λ s. ⌜ GivesUp (stateOf (now (cells .entry)) count (now (list .entry)) len) thread asked (now (reply .entry)) (now (reply .exit)) (routedTo s (now (cells .entry)) count (now (list .exit))) ⌝ }
 {
-    routing::on_give_up(list, len, thread, asked, reply)
+    router_give_up::on_give_up(list, len, thread, asked, reply)
 }
 
 pub fn replaced_in(
@@ -83,7 +83,7 @@ pub fn replaced_in(
     requires { ⌜ Lawful (stateOf (now cells) count (now list) len) ⌝ }
     ensures { λ s. ⌜ Replaces (stateOf (now (cells .entry)) count (now (list .entry)) len) address (routedTo s (now (cells .exit)) count (now (list .exit))) ⌝ }
 {
-    routing::on_replaced(cells, count, list, len, address)
+    router_give_up::on_replaced(cells, count, list, len, address)
 }
 
 // ---- the calls by value
@@ -147,7 +147,7 @@ pub fn count_owed(list: &[u64; 48], len: usize) -> usize
     let mut owed = 0;
     let mut i = 0;
     while i < len {
-        let place = places::place_at(list, len, i);
+        let place = router_walks::place_at(list, len, i);
         if place.owed {
             owed += 1;
         }

@@ -34,7 +34,7 @@ pub fn event(cells: &[u32; 16], count: usize) -> Outcome
     requires { ⌜ count ≤ 16 ⌝ }
     ensures { λ r. ⌜ r ≡ judgeEvent (rowsOf (now (cells .entry)) count) ⌝ }
 {
-    if table::is_open(cells, count, tapa::EVENT_HANDLER) {
+    if router_rows::is_open(cells, count, tapa::EVENT_HANDLER) {
         return Outcome::Event;
     }
     Outcome::Refused(Refusal::EventCannotBeTaken)
@@ -47,7 +47,7 @@ fn is_closed(cells: &[u32; 16], count: usize, handler: u16, kind: u8) -> bool
     requires { ⌜ count ≤ 16 ⌝ }
     ensures { λ r. ⌜ r ≡ closedTo (rowsOf (now (cells .entry)) count) handler kind ⌝ }
 {
-    if table::is_open(cells, count, handler) {
+    if router_rows::is_open(cells, count, handler) {
         return false;
     }
     kind != tapa::OPEN_HANDLER
@@ -58,7 +58,7 @@ fn may_ask(list: &[u64; 48], len: usize, thread: u8, source: u16) -> bool
     requires { ⌜ Lawful (now list) len ⌝ }
     ensures { λ r. ⌜ r ≡ mayAsk (placesIn list len) thread source ⌝ }
 {
-    match places::standing_of(list, len, thread, tapa::handler(source)) {
+    match router_walks::standing_of(list, len, thread, tapa::handler(source)) {
         Standing::Within => true,
         Standing::Outside => false,
         Standing::Empty => tapa::category(source) == tapa::TILL_DRIVER,
@@ -73,10 +73,10 @@ fn is_busy(list: &[u64; 48], len: usize, source: u16, handler: u16, thread: u8) 
     if handler == tapa::handler(source) {
         return true;
     }
-    if places::stands_on(list, len, thread, handler) {
+    if router_walks::stands_on(list, len, thread, handler) {
         return true;
     }
-    places::taken(list, len, handler, thread)
+    router_walks::taken(list, len, handler, thread)
 }
 
 // The first of the rules a to e that applies.
@@ -86,7 +86,7 @@ pub fn rule_for(cells: &[u32; 16], count: usize, list: &[u64; 48], len: usize, h
     ensures { λ r. ⌜ ruled head r ≡ judgeCommand (viewIn cells count list len) head ⌝ }
 {
     let handler = tapa::handler(head.destination);
-    if !table::is_listed(cells, count, handler) {
+    if !router_rows::is_listed(cells, count, handler) {
         return Ruling::Back(tapa::INVALID_DESTINATION);
     }
     if !known_types::is_known(tapa::category(head.destination), head.kind) {

@@ -120,27 +120,27 @@ pub const TORN: usize = names::FREE + 56;
 
 // What came.
 fn write_arrivals(sheet: &mut [u8]) {
-    forms::engrave(
+    show_sheet::engrave(
         sheet,
         ENCIPHERED,
         b" (enciphered)|row #: $ @$, open$|row #: $ @$, closed$|more rows follow: a table has at most 16",
     );
-    forms::engrave(
+    show_sheet::engrave(
         sheet,
         ASKS,
         b"thread #: the $ @$ asks the $ @$: $ ('^'), |thread #: the $ @$ answers the $ @$: code @, $; ",
     );
-    forms::engrave(
+    show_sheet::engrave(
         sheet,
         ANSWERS_BARE,
         b"thread #: the $ @$ answers the $ @$ without a code; |thread #: the $ @$ reports to the $ @$: $ ('^'), ",
     );
-    forms::engrave(
+    show_sheet::engrave(
         sheet,
         GIVES_UP,
         b"thread #: the question to the $ @$ is to be given up|the $ @$ is said to be replaced",
     );
-    forms::engrave(
+    show_sheet::engrave(
         sheet,
         UNREAD,
         b"too few bytes for a message: #|no data|1 byte of data|# bytes of data",
@@ -149,47 +149,47 @@ fn write_arrivals(sheet: &mut [u8]) {
 
 // What became of it.
 fn write_outcomes(sheet: &mut [u8]) {
-    forms::engrave(
+    show_sheet::engrave(
         sheet,
         PASSED,
         b"passed on; @ now has to answer|passed on; @ has its answer from @",
     );
-    forms::engrave(
+    show_sheet::engrave(
         sheet,
         SWALLOWED,
         b"it comes late, and goes to nobody; @ owes it no more|it goes to the event queue; no answer is due",
     );
-    forms::engrave(
+    show_sheet::engrave(
         sheet,
         TURNED,
         b"turned back, and not passed on; @ is told code @, $|given up; @ is told code @, $; @ now owes a late reply",
     );
-    forms::engrave(
+    show_sheet::engrave(
         sheet,
         RESET,
         b"@ is closed now, and owes no late reply any more|refused, and nothing changed: $",
     );
-    forms::engrave(sheet, NOW_OPEN, b"@ is open now|@ is closed now");
+    show_sheet::engrave(sheet, NOW_OPEN, b"@ is open now|@ is closed now");
 }
 
 // Why a command was turned back.
 fn write_reasons(sheet: &mut [u8]) {
-    forms::engrave(
+    show_sheet::engrave(
         sheet,
         NO_SUCH,
         b"why: the table has no handler @|why: the $ @ does not know this type|why: @ is closed",
     );
-    forms::engrave(
+    show_sheet::engrave(
         sheet,
         NOT_ITS_TURN,
         b"why: the thread is that of @, and @ has no question there to answer",
     );
-    forms::engrave(
+    show_sheet::engrave(
         sheet,
         IN_THREAD,
         b"why: @ has its part in the open questions of this thread already",
     );
-    forms::engrave(
+    show_sheet::engrave(
         sheet,
         HAS_TO_ANSWER,
         b"why: @ has to answer @ on thread # first|why: @ still owes @ a late reply, on thread #",
@@ -198,22 +198,22 @@ fn write_reasons(sheet: &mut [u8]) {
 
 // Why a command was turned back or a step refused, by what stood open before.
 fn write_causes(sheet: &mut [u8]) {
-    forms::engrave(
+    show_sheet::engrave(
         sheet,
         ASKS_ITSELF,
         b"why: @ asks itself|why: only a till driver can begin a thread|why: @ itself still waits, for @",
     );
-    forms::engrave(
+    show_sheet::engrave(
         sheet,
         ASKED_AS,
         b"why: on this thread @ was asked, and not @|why: nobody waits for @ on this thread",
     );
-    forms::engrave(
+    show_sheet::engrave(
         sheet,
         ASKED_BY,
         b"why: it was asked by @|why: @ has to answer @ on thread #|why: @ waits for @ on thread #",
     );
-    forms::engrave(
+    show_sheet::engrave(
         sheet,
         TORN,
         b"thread #: from the $ @$ to the $ @$: bytes of data announced: #, came: #",
@@ -222,22 +222,22 @@ fn write_causes(sheet: &mut [u8]) {
 
 // How a thread stands, and where to read on.
 fn write_standings(sheet: &mut [u8]) {
-    forms::engrave(
+    show_sheet::engrave(
         sheet,
         OPEN_FIRST,
         b"open on thread #: $ @$ asks @$|, @$ asks @$|open on thread #: nothing",
     );
-    forms::engrave(
+    show_sheet::engrave(
         sheet,
         OWED_FIRST,
         b"owed on thread #: a late reply of @$ to @$|, of @$ to @$",
     );
-    forms::engrave(
+    show_sheet::engrave(
         sheet,
         SEE_CODE,
         b"see docs/book/code-@.md|see docs/book/refusal-##.md",
     );
-    forms::engrave(
+    show_sheet::engrave(
         sheet,
         SEE_BROKEN,
         b"see docs/book/line-broken.md|see docs/book/line-too-long.md",
@@ -246,22 +246,22 @@ fn write_standings(sheet: &mut [u8]) {
 
 // How a session ends.
 fn write_ends(sheet: &mut [u8]) {
-    forms::engrave(
+    show_sheet::engrave(
         sheet,
         BROKEN,
         b"field # of the file cannot be read; nothing from there on was done",
     );
-    forms::engrave(
+    show_sheet::engrave(
         sheet,
         BAD_TABLE,
         b"the table of handlers is refused, so no step was done: $",
     );
-    forms::engrave(
+    show_sheet::engrave(
         sheet,
         TOO_LONG,
         b"the file has more than 65,536 bytes; nothing of it was done",
     );
-    forms::engrave(
+    show_sheet::engrave(
         sheet,
         ALL_PASSED,
         b"questions that were passed on: #|of these answered: #|of these given up: #|of these still open: #|late replies still owed: #",
@@ -281,6 +281,6 @@ pub fn write_sheet(sheet: &mut [u8]) {
 
 // Writes a sentence that is a line of its own.
 pub fn say(words: &mut [u8], at: usize, sheet: &[u8], form: &[usize]) -> usize {
-    let next = forms::put(words, at, sheet, form);
+    let next = show_forms::put(words, at, sheet, form);
     text::put(words, next, b'\n')
 }

@@ -57,7 +57,7 @@ fn has_repeats(cells: &[u32; 16], count: usize) -> bool
     let mut i = count;
     while 0 < i {
         i -= 1;
-        if table::is_listed(cells, i, (cells[i] / 2) as u16) {
+        if router_rows::is_listed(cells, i, (cells[i] / 2) as u16) {
             return true;
         }
     }
@@ -118,7 +118,7 @@ pub fn set_up_with(rows: Rows) -> SetUp
         Checked::Accepted => SetUp { answer, rows },
         Checked::Refused(_) => SetUp {
             answer,
-            rows: table::no_rows(),
+            rows: router_rows::no_rows(),
         },
     }
 }
@@ -137,10 +137,10 @@ fn row_at(rows: &[Row], i: usize) -> Row
 pub fn read_rows(rows: &[Row]) -> Rows
     ensures { λ r. ⌜ r ≡ rowsRead (now (rows .entry)) ⌝ }
 {
-    let mut held = table::no_rows();
+    let mut held = router_rows::no_rows();
     let mut i = 0;
     while i < rows.len() {
-        held = table::with_row(held, row_at(rows, i));
+        held = router_rows::with_row(held, row_at(rows, i));
         i += 1;
     }
     held

@@ -29,7 +29,7 @@ fn fresh_over(rows: Rows) -> Router
 pub fn blank() -> Router
     ensures { λ r. ⌜ r ≡ blankRouter ⌝ }
 {
-    fresh_over(table::no_rows())
+    fresh_over(router_rows::no_rows())
 }
 
 // A fresh router over a table that was set up.

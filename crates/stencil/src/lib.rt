@@ -114,22 +114,22 @@ pub const MORE_TOTALS: usize = names::FREE + 62;
 
 // The frame of the file.
 fn write_frame(sheet: &mut [u8]) {
-    forms::engrave(
+    show_sheet::engrave(
         sheet,
         RAW,
         b"$|<svg xmlns=\"http://www.w3.org/2000/svg\" viewBox=\"0 0 1120 #\" width=\"1120\" height=\"#\" font-family=\"sans-serif\">",
     );
-    forms::engrave(
+    show_sheet::engrave(
         sheet,
         TITLE,
         b"<title>A session of the kiosk</title><style>|#mm}}</style>",
     );
-    forms::engrave(
+    show_sheet::engrave(
         sheet,
         PAGE,
         b"<g transform=\"translate(0 #)\"><rect class=\"bg\" width=\"1120\" height=\"1584\"/>",
     );
-    forms::engrave(
+    show_sheet::engrave(
         sheet,
         PAGE_NUMBER,
         b"<text x=\"40\" y=\"44\">page # of #</text>|</g>|</svg>",
@@ -138,22 +138,22 @@ fn write_frame(sheet: &mut [u8]) {
 
 // The style sheet: strokes and fills of shapes and words.
 fn write_styles(sheet: &mut [u8]) {
-    forms::engrave(
+    show_sheet::engrave(
         sheet,
         STYLES,
         b"text{font-size:12px}.s{font-size:10.5px;fill:dimgray}.g{fill:gray}.k{text-anchor:end}",
     );
-    forms::engrave(
+    show_sheet::engrave(
         sheet,
         STYLES + 1,
         b".m{text-anchor:middle;font-size:11px;paint-order:stroke;stroke:white;stroke-width:4px}",
     );
-    forms::engrave(
+    show_sheet::engrave(
         sheet,
         STYLES + 2,
         b".n{text-anchor:middle;font-size:10px}path,circle,rect{fill:none;stroke:black}.bg{fill:white;stroke:none}",
     );
-    forms::engrave(
+    show_sheet::engrave(
         sheet,
         STYLES + 3,
         b".lane{stroke:darkgray}.hub{stroke:darkgray;stroke-width:5}.shut{stroke:gainsboro;stroke-width:11}",
@@ -161,17 +161,17 @@ fn write_styles(sheet: &mut [u8]) {
 }
 
 fn write_more_styles(sheet: &mut [u8]) {
-    forms::engrave(
+    show_sheet::engrave(
         sheet,
         STYLES + 4,
         b".w{stroke-width:2}.o{stroke-width:2;stroke-dasharray:2 4}.a{stroke-width:2}",
     );
-    forms::engrave(
+    show_sheet::engrave(
         sheet,
         STYLES + 5,
         b".r{stroke-width:2;stroke-dasharray:8 3}.c{fill:white;stroke-width:2}.x{stroke-width:3}",
     );
-    forms::engrave(
+    show_sheet::engrave(
         sheet,
         STYLES + 6,
         b".no{stroke-width:2}@page{size:A4;margin:0}",
@@ -180,47 +180,47 @@ fn write_more_styles(sheet: &mut [u8]) {
 
 // Each thread's colour, and last how wide the picture is on paper; its height follows.
 fn write_colours(sheet: &mut [u8]) {
-    forms::engrave(
+    show_sheet::engrave(
         sheet,
         STYLES + 7,
         b".t0{stroke:black}.f0{fill:black;stroke:none}|.t1{stroke:rgb(0,114,178)}.f1{fill:rgb(0,114,178);stroke:none}",
     );
-    forms::engrave(
+    show_sheet::engrave(
         sheet,
         STYLES + 9,
         b".t2{stroke:rgb(213,94,0)}.f2{fill:rgb(213,94,0);stroke:none}|.t3{stroke:rgb(0,138,100)}.f3{fill:rgb(0,138,100);stroke:none}",
     );
-    forms::engrave(
+    show_sheet::engrave(
         sheet,
         STYLES + 11,
         b".t4{stroke:rgb(184,71,138)}.f4{fill:rgb(184,71,138);stroke:none}|.t5{stroke:rgb(200,130,0)}.f5{fill:rgb(200,130,0);stroke:none}",
     );
-    forms::engrave(
+    show_sheet::engrave(
         sheet,
         STYLES + 13,
         b".t6{stroke:rgb(40,150,220)}.f6{fill:rgb(40,150,220);stroke:none}|.t7{stroke:rgb(130,80,60)}.f7{fill:rgb(130,80,60);stroke:none}",
     );
-    forms::engrave(sheet, STYLES + 15, b"@media print{svg{width:210mm;height:");
+    show_sheet::engrave(sheet, STYLES + 15, b"@media print{svg{width:210mm;height:");
 }
 
 // The columns, and what stands in them.
 fn write_columns(sheet: &mut [u8]) {
-    forms::engrave(
+    show_sheet::engrave(
         sheet,
         ROUTER,
         b"<text transform=\"translate(# 230) rotate(-60)\">router</text>",
     );
-    forms::engrave(
+    show_sheet::engrave(
         sheet,
         COLUMN,
         b"<text transform=\"translate(# 230) rotate(-60)\">@ $</text>|<text class=\"g\" transform=\"translate(# 230) rotate(-60)\">@ $, closed</text>",
     );
-    forms::engrave(
+    show_sheet::engrave(
         sheet,
         LANE,
         b"<path class=\"lane\" d=\"M# 238V#\"/>|<path class=\"hub\" d=\"M# 238V#\"/>",
     );
-    forms::engrave(
+    show_sheet::engrave(
         sheet,
         SHUT,
         b"<path class=\"shut\" d=\"M# #v30\"/>|<path class=\"w t#\" d=\"M# #v30\"/>|<path class=\"o t#\" d=\"M# #v30\"/>",
@@ -229,22 +229,22 @@ fn write_columns(sheet: &mut [u8]) {
 
 // The arrow of a step.
 fn write_arrows(sheet: &mut [u8]) {
-    forms::engrave(
+    show_sheet::engrave(
         sheet,
         QUESTION,
         b"<path class=\"a t#\" d=\"M# #H#\"/>|<path class=\"r t#\" d=\"M# #H#\"/>",
     );
-    forms::engrave(
+    show_sheet::engrave(
         sheet,
         RIGHT_HEAD,
         b"<path class=\"f#\" d=\"M# #l-11-5v10z\"/>|<path class=\"f#\" d=\"M# #l11-5v10z\"/>",
     );
-    forms::engrave(
+    show_sheet::engrave(
         sheet,
         TYPE_LABEL,
         b"<text class=\"m\" x=\"#\" y=\"#\">^</text>|<text class=\"m\" x=\"#\" y=\"#\">@</text>",
     );
-    forms::engrave(
+    show_sheet::engrave(
         sheet,
         THREAD,
         b"<circle class=\"c t#\" cx=\"#\" cy=\"#\" r=\"7\"/>|<text class=\"n\" x=\"#\" y=\"#\">#</text>",
@@ -253,17 +253,17 @@ fn write_arrows(sheet: &mut [u8]) {
 
 // The marks of a step.
 fn write_marks(sheet: &mut [u8]) {
-    forms::engrave(
+    show_sheet::engrave(
         sheet,
         CROSS,
         b"<path class=\"x\" d=\"M# #l12 12m0-12l-12 12\"/>|<path class=\"f#\" d=\"M# #h10v12h-10z\"/>",
     );
-    forms::engrave(
+    show_sheet::engrave(
         sheet,
         RING,
         b"<circle class=\"c\" cx=\"#\" cy=\"#\" r=\"9\"/>|<text class=\"k\" x=\"68\" y=\"#\">#</text>",
     );
-    forms::engrave(
+    show_sheet::engrave(
         sheet,
         MARGIN_MARK,
         b"<rect class=\"no\" x=\"76\" y=\"#\" width=\"76\" height=\"15\"/>|<text x=\"82\" y=\"#\">refused #</text>",
@@ -272,27 +272,27 @@ fn write_marks(sheet: &mut [u8]) {
 
 // What is said beside a step.
 fn write_words(sheet: &mut [u8]) {
-    forms::engrave(
+    show_sheet::engrave(
         sheet,
         PASSED,
         b"<text x=\"78\" y=\"#\">passed: @ asks @</text>|<text x=\"78\" y=\"#\">answered: @ to @</text>",
     );
-    forms::engrave(
+    show_sheet::engrave(
         sheet,
         TURNED,
         b"<text x=\"78\" y=\"#\">turned back: @ to @, '^'</text>|<text x=\"78\" y=\"#\">given up: question of @ to @</text>",
     );
-    forms::engrave(
+    show_sheet::engrave(
         sheet,
         SWALLOWED,
         b"<text x=\"78\" y=\"#\">swallowed: late reply of @</text>|<text x=\"78\" y=\"#\">event: @ to @</text>",
     );
-    forms::engrave(
+    show_sheet::engrave(
         sheet,
         RESET,
         b"<text x=\"78\" y=\"#\">reset: @ was replaced</text>|<text class=\"s\" x=\"78\" y=\"#\">'^' $</text>",
     );
-    forms::engrave(
+    show_sheet::engrave(
         sheet,
         WITH_CODE,
         b"<text class=\"s\" x=\"78\" y=\"#\">code @, $</text>|<text class=\"s\" x=\"78\" y=\"#\">$</text>",
@@ -301,32 +301,32 @@ fn write_words(sheet: &mut [u8]) {
 
 // How a session ends, and what the signs mean.
 fn write_ends(sheet: &mut [u8]) {
-    forms::engrave(
+    show_sheet::engrave(
         sheet,
         TOTALS,
         b"<text x=\"78\" y=\"#\">end: # passed on, # answered, # given up,</text>",
     );
-    forms::engrave(
+    show_sheet::engrave(
         sheet,
         MORE_TOTALS,
         b"<text x=\"78\" y=\"#\"># still open, # late replies still owed</text>",
     );
-    forms::engrave(
+    show_sheet::engrave(
         sheet,
         BROKEN,
         b"<text x=\"78\" y=\"#\">broken: field # of the file cannot be read</text>|<text x=\"78\" y=\"#\">table refused #: $</text>",
     );
-    forms::engrave(
+    show_sheet::engrave(
         sheet,
         TOO_LONG,
         b"<text x=\"78\" y=\"#\">too long: the file has more than 65,536 bytes</text>",
     );
-    forms::engrave(
+    show_sheet::engrave(
         sheet,
         LEGEND,
         b"full arrow: question; dashed arrow: answer; circle: thread; bar in a column: has to answer; dotted bar: owes a late reply;",
     );
-    forms::engrave(
+    show_sheet::engrave(
         sheet,
         MORE_LEGEND,
         b"cross: turned back or given up; filled square: a late reply ends; ring: replaced; frame: refused; grey: closed",

@@ -81,13 +81,13 @@ fn say_look_ups(done: SetUp)
     let rows = done.rows;
     let mut cells = rows.cells;
     let count = rows.count;
-    say(bit(table::is_listed(&cells, count, 0x0204)));
-    say(bit(table::is_listed(&cells, count, 0x0284)));
-    say(bit(table::is_open(&cells, count, 0x0204)));
-    table::set_open(&mut cells, count, 0x0204, false);
-    say(bit(table::is_open(&cells, count, 0x0204)));
-    say(bit(table::is_open(&cells, count, 0x0205)));
-    say(bit(table::is_listed(&cells, count, 0x0204)));
+    say(bit(router_rows::is_listed(&cells, count, 0x0204)));
+    say(bit(router_rows::is_listed(&cells, count, 0x0284)));
+    say(bit(router_rows::is_open(&cells, count, 0x0204)));
+    router_rows::set_open(&mut cells, count, 0x0204, false);
+    say(bit(router_rows::is_open(&cells, count, 0x0204)));
+    say(bit(router_rows::is_open(&cells, count, 0x0205)));
+    say(bit(router_rows::is_listed(&cells, count, 0x0204)));
 }
 
 fn main() {

@@ -66,7 +66,7 @@ fn put_two(
         a,
         b,
     ];
-    forms::put(words, at, sheet, &values)
+    show_forms::put(words, at, sheet, &values)
 }
 
 fn is_report(came: Arrival) -> bool {
@@ -168,7 +168,7 @@ fn put_open(words: &mut [u8], listed: Listed, sheet: &[u8], place: Place) -> usi
     let a = mark(place.asker);
     let b = mark(place.asked);
     if listed.any {
-        return forms::put(
+        return show_forms::put(
             words,
             listed.at,
             sheet,
@@ -177,7 +177,7 @@ fn put_open(words: &mut [u8], listed: Listed, sheet: &[u8], place: Place) -> usi
     }
     let thread = place.thread as usize;
     let name = names::category_name(place.asker);
-    forms::put(
+    show_forms::put(
         words,
         listed.at,
         sheet,
@@ -192,14 +192,14 @@ fn put_owed(words: &mut [u8], listed: Listed, sheet: &[u8], place: Place) -> usi
     let a = mark(place.asker);
     let b = mark(place.asked);
     if listed.any {
-        return forms::put(
+        return show_forms::put(
             words,
             listed.at,
             sheet,
             &[sentences::OWED_MORE, asked, b, asker, a],
         );
     }
-    forms::put(
+    show_forms::put(
         words,
         listed.at,
         sheet,
@@ -240,7 +240,7 @@ fn put_places(
     let mut listed = Listed { at, any: false };
     let mut i = 0;
     while i < 48 {
-        let place = place::place_of(list[i]);
+        let place = router_tests::place_of(list[i]);
         let wanted = i < router.len && place.thread == thread && place.owed == owed;
         listed = put_place(words, listed, sheet, place, wanted);
         i += 1;
@@ -344,7 +344,7 @@ fn is_open(router: Router, handler: u16) -> bool {
     if 16 < count {
         return false;
     }
-    table::is_open(&cells, count, handler)
+    router_rows::is_open(&cells, count, handler)
 }
 
 // The answer, and whether it opened or closed the handler that gave it.
