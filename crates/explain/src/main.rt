@@ -31,25 +31,8 @@ fn show(sheet: &[u8; 65536], input: &[u8], page: &mut [u8; 65536], words: &mut [
     }
 }
 
-// Reads one byte more than a session file may have, so that a longer one is seen. Of a file that
-// cannot be read nothing is printed; `inputs` has said why.
-fn show_input(
-    sheet: &[u8; 65536],
-    i: usize,
-    input: &mut [u8],
-    page: &mut [u8; 65536],
-    words: &mut [u8; 8192],
-) -> bool {
-    let waits = b"waiting for a session file on standard input (Ctrl-D ends it)";
-    let got = inputs::read(b"explain", waits, i, input);
-    if !got.whole {
-        return true;
-    }
-    let n = got.length;
-    show(sheet, &input[..n], page, words)
-}
-
-// The sheet and the buffers are made once, and lent.
+// The sheet and the buffers are made once, and lent. One byte more than a session file may have is
+// read, so that a longer one is seen.
 fn main() {
     let mut sheet = io::large_buffer();
     sentences::write_sheet(&mut sheet);
@@ -58,8 +41,16 @@ fn main() {
     let mut words = [0u8; 8192];
     let count = os::arg_count();
     let mut i = inputs::first_name();
-    while show_input(&sheet, i, &mut input, &mut page, &mut words) {
-        i += 1;
+    loop {
+        let came = inputs::next(b"explain", b"a session file", i, count, &mut input);
+        let n = came.length;
+        if !came.some {
+            return;
+        }
+        if !show(&sheet, &input[..n], &mut page, &mut words) {
+            return;
+        }
+        i = came.next;
         if count <= i {
             return;
         }

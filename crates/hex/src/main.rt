@@ -98,8 +98,7 @@ fn show_text(bytes: &[u8]) {
 
 fn from_text(i: usize) {
     let mut text = large_text();
-    let waits = b"waiting for hex text on standard input (Ctrl-D ends it)";
-    let got = inputs::read(b"hex", waits, i, &mut text);
+    let got = inputs::read(b"hex", b"hex text", i, &mut text);
     let n = got.length;
     if 524288 < n {
         refuse(b"the text has more than 524,288 characters");
@@ -112,8 +111,7 @@ fn from_text(i: usize) {
 
 fn from_bytes(i: usize) {
     let mut bytes = [0u8; 65537];
-    let waits = b"waiting for a session file on standard input (Ctrl-D ends it)";
-    let got = inputs::read(b"hex", waits, i, &mut bytes);
+    let got = inputs::read(b"hex", b"a session file", i, &mut bytes);
     let n = got.length;
     if 65536 < n {
         refuse(b"the file has more than 65,536 bytes");

@@ -13,7 +13,7 @@
 use libc::STDERR_FILENO;
 use libc::STDIN_FILENO;
 use libc::STDOUT_FILENO;
-ghost use Prim.Native.Nat.{_≤_};
+ghost use Prim.Native.Nat.{_≤_, _<_};
 ghost use Rattle.io.specs.Counts.{Counts};
 
 // Where failures are told.
@@ -112,13 +112,22 @@ pub fn read_file(name: &[u8], buf: &mut [u8]) -> Got
     got
 }
 
-// Reads standard input. Who sits at a terminal is told what is waited for.
-fn read_standard(program: &[u8], waits: &[u8], buf: &mut [u8]) -> Got
+// Tells who sits at a terminal what is waited for.
+fn wait_for(program: &[u8], what: &[u8]) {
+    if libc::isatty(STDIN_FILENO) != 1 {
+        return;
+    }
+    io::write_all(STDERR_FILENO, program);
+    io::write_all(STDERR_FILENO, b": waiting for ");
+    io::write_all(STDERR_FILENO, what);
+    io::write_all(STDERR_FILENO, b" on standard input (Ctrl-D ends it)\n");
+}
+
+// Reads standard input.
+fn read_standard(program: &[u8], what: &[u8], buf: &mut [u8]) -> Got
     ensures { λ r. ⌜ Counts (r .length) (now (buf .exit)) ⌝ }
 {
-    if libc::isatty(STDIN_FILENO) == 1 {
-        say(program, waits);
-    }
+    wait_for(program, what);
     let got = read_whole(STDIN_FILENO, buf);
     if !got.whole {
         fail(program, b"standard input");
@@ -127,11 +136,11 @@ fn read_standard(program: &[u8], waits: &[u8], buf: &mut [u8]) -> Got
 }
 
 // Reads the input of that name: a file, or standard input where the name is `-`.
-fn read_input(program: &[u8], waits: &[u8], name: &[u8], buf: &mut [u8]) -> Got
+fn read_input(program: &[u8], what: &[u8], name: &[u8], buf: &mut [u8]) -> Got
     ensures { λ r. ⌜ Counts (r .length) (now (buf .exit)) ⌝ }
 {
     if check::same(name, b"-") {
-        return read_standard(program, waits, buf);
+        return read_standard(program, what, buf);
     }
     let got = read_file(name, buf);
     if !got.whole {
@@ -154,11 +163,11 @@ fn title(name: &[u8]) {
 
 // Reads the input that argument i names, or standard input where there is no such argument. Where
 // that fails, it is said.
-pub fn read(program: &[u8], waits: &[u8], i: usize, buf: &mut [u8]) -> Got
+pub fn read(program: &[u8], what: &[u8], i: usize, buf: &mut [u8]) -> Got
     ensures { λ r. ⌜ Counts (r .length) (now (buf .exit)) ⌝ }
 {
     if os::arg_count() <= i {
-        return read_standard(program, waits, buf);
+        return read_standard(program, what, buf);
     }
     let mut name = io::buffer();
     let n = os::arg(i, &mut name);
@@ -169,11 +178,53 @@ pub fn read(program: &[u8], waits: &[u8], i: usize, buf: &mut [u8]) -> Got
             whole: false,
         };
     }
-    let got = read_input(program, waits, &name[..n], buf);
+    let got = read_input(program, what, &name[..n], buf);
     if got.whole {
         title(&name[..n]);
     }
     got
+}
+
+// The next input that can be read, from argument i on: how many bytes of the buffer are its, and the
+// number of the argument after it. Where none is left, `some` is false.
+pub struct Came {
+    pub length: usize,
+    pub some: bool,
+    pub next: usize,
+}
+
+// The number of the argument after i; the count of them where there is none.
+fn after(i: usize, count: usize) -> usize
+    ensures { λ r. ⌜ (r < count → i < r) ⌝ }
+{
+    if i < count { i + 1 } else { count }
+}
+
+// Reads on until an input was read whole. Of one that cannot be read nothing is done; it is said why.
+pub fn next(program: &[u8], what: &[u8], from: usize, count: usize, buf: &mut [u8]) -> Came
+    ensures { λ r. ⌜ Counts (r .length) (now (buf .exit)) ⌝ }
+    ensures { λ r. ⌜ (r .next < count → from < r .next) ⌝ }
+{
+    let mut i = from;
+    loop {
+        let got = read(program, what, i, buf);
+        let next = after(i, count);
+        if got.whole {
+            return Came {
+                length: got.length,
+                some: true,
+                next,
+            };
+        }
+        if count <= next {
+            return Came {
+                length: got.length,
+                some: false,
+                next,
+            };
+        }
+        i = next;
+    }
 }
 
 // Writes all to standard output, or says why not. Where nobody reads any more there is nobody to

@@ -47,20 +47,8 @@ fn show(sheet: &[u8; 65536], input: &[u8]) {
     inputs::write(b"ladder", &page[..ended]);
 }
 
-// Reads one byte more than a session file may have, so that a longer one is seen. Of a file that
-// cannot be read nothing is drawn; `inputs` has said why.
-fn show_input(sheet: &[u8; 65536], i: usize) {
-    let mut input = [0u8; 65537];
-    let waits = b"waiting for a session file on standard input (Ctrl-D ends it)";
-    let got = inputs::read(b"ladder", waits, i, &mut input);
-    if !got.whole {
-        return;
-    }
-    let n = got.length;
-    show(sheet, &input[..n])
-}
-
-// One picture at a time: two would be no file that a browser shows.
+// One picture at a time: two would be no file that a browser shows. One byte more than a session file
+// may have is read, so that a longer one is seen.
 fn main() {
     let first = inputs::first_name();
     if first + 1 < os::arg_count() {
@@ -70,5 +58,10 @@ fn main() {
     }
     let mut sheet = io::large_buffer();
     stencil::write_sheet(&mut sheet);
-    show_input(&sheet, first);
+    let mut input = [0u8; 65537];
+    let got = inputs::read(b"ladder", b"a session file", first, &mut input);
+    let n = got.length;
+    if got.whole {
+        show(&sheet, &input[..n]);
+    }
 }

@@ -22,27 +22,24 @@ fn show(program: &[u8], input: &[u8], page: &mut [u8; 65536]) -> bool {
     }
 }
 
-// Reads one byte more than a session file may have, so that a longer one is seen. Of a file that
-// cannot be read nothing is printed; `inputs` has said why.
-fn show_input(program: &[u8], i: usize, input: &mut [u8], page: &mut [u8; 65536]) -> bool {
-    let waits = b"waiting for a session file on standard input (Ctrl-D ends it)";
-    let got = inputs::read(program, waits, i, input);
-    if !got.whole {
-        return true;
-    }
-    let n = got.length;
-    show(program, &input[..n], page)
-}
-
 // Prints the lines of standard input or, where arguments name files, of each file in turn. The
-// buffers are made once, and lent.
+// buffers are made once, and lent. One byte more than a session file may have is read, so that a longer
+// one is seen.
 pub fn show_inputs(program: &[u8]) {
     let count = os::arg_count();
     let mut input = [0u8; 65537];
     let mut page = [0u8; 65536];
     let mut i = inputs::first_name();
-    while show_input(program, i, &mut input, &mut page) {
-        i += 1;
+    loop {
+        let came = inputs::next(program, b"a session file", i, count, &mut input);
+        let n = came.length;
+        if !came.some {
+            return;
+        }
+        if !show(program, &input[..n], &mut page) {
+            return;
+        }
+        i = came.next;
         if count <= i {
             return;
         }

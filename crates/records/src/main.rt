@@ -215,35 +215,8 @@ fn show(
     }
 }
 
-// Reads one byte more than an input may have, so that a longer one is seen. Of a file that cannot
-// be read nothing is done; `inputs` has said why.
-fn show_input(
-    path: &[u8],
-    locked: bool,
-    b: Book,
-    area: &mut [u8],
-    last: &mut [u8],
-    size: usize,
-    i: usize,
-) -> Turn
-    requires { ⌜ Held b (now area) (now last) size ⌝ }
-    ensures { λ r. ⌜ Turned (now (area .exit)) (now (last .exit)) r ⌝ }
-{
-    let mut input = [0u8; 65537];
-    let waits = b"waiting for commands on standard input (Ctrl-D ends it)";
-    let got = inputs::read(b"records", waits, i, &mut input);
-    if !got.whole {
-        return Turn {
-            going: true,
-            book: b,
-            size,
-        };
-    }
-    let n = got.length;
-    show(path, locked, b, area, last, size, &input[..n])
-}
-
-// Prints the lines of standard input or, where arguments name files, of each file in turn.
+// Prints the lines of standard input or, where arguments name files, of each file in turn. One byte more
+// than an input may have is read, so that a longer one is seen.
 fn show_inputs(path: &[u8], locked: bool, b: Book, area: &mut [u8], last: &mut [u8], size: usize)
     requires { ⌜ Held b (now area) (now last) size ⌝ }
 {
@@ -251,12 +224,18 @@ fn show_inputs(path: &[u8], locked: bool, b: Book, area: &mut [u8], last: &mut [
     let mut i = inputs::first_name() + 1;
     let mut book = b;
     let mut kept = size;
+    let mut input = [0u8; 65537];
     loop {
-        let turn = show_input(path, locked, book, area, last, kept, i);
+        let came = inputs::next(b"records", b"commands", i, count, &mut input);
+        let n = came.length;
+        if !came.some {
+            return;
+        }
+        let turn = show(path, locked, book, area, last, kept, &input[..n]);
         if !turn.going {
             return;
         }
-        i += 1;
+        i = came.next;
         if count <= i {
             return;
         }

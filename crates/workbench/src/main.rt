@@ -24,25 +24,22 @@ fn show(program: &[u8], input: &[u8]) -> bool {
     }
 }
 
-// Reads one byte more than an input may have, so that a longer one is seen. Of a file that cannot
-// be read nothing is printed; `inputs` has said why.
-fn show_input(program: &[u8], i: usize) -> bool {
-    let mut input = [0u8; 65537];
-    let waits = b"waiting for fields on standard input (Ctrl-D ends it)";
-    let got = inputs::read(program, waits, i, &mut input);
-    if !got.whole {
-        return true;
-    }
-    let n = got.length;
-    show(program, &input[..n])
-}
-
-// Prints the lines of standard input or, where arguments name files, of each file in turn.
+// Prints the lines of standard input or, where arguments name files, of each file in turn. One byte more
+// than an input may have is read, so that a longer one is seen.
 fn show_inputs(program: &[u8]) {
     let count = os::arg_count();
+    let mut input = [0u8; 65537];
     let mut i = inputs::first_name();
-    while show_input(program, i) {
-        i += 1;
+    loop {
+        let came = inputs::next(program, b"fields", i, count, &mut input);
+        let n = came.length;
+        if !came.some {
+            return;
+        }
+        if !show(program, &input[..n]) {
+            return;
+        }
+        i = came.next;
         if count <= i {
             return;
         }

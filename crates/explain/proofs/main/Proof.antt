@@ -1,16 +1,22 @@
--- `explain::main` is safe and ends. Before the test, the number is that of an argument, or 2 at most. Assumes nothing.
-use Prim.Native.Nat.{_+_, _-_, _≤_}
+-- `explain::main` is safe and ends: each input leaves fewer. Assumes nothing.
+use Prim.Native.Nat.{_-_}
 use mathlib.Core.Path.{_≡_}
+use native.Mathlib.Omega.{arith}
 use lib.ListN.{length}
 use borrow.Author.Needs.{needs}
 use Rattle.explain.proofs.main.Statement.{statement}
 use Rattle.explain.proofs.main.Tie as tie
 
 abbrev Inv-loop : tie.InvT-loop
-Inv-loop sheet input₀ page₀ words₀ count i₀ input page words i = (i ≤ 2 + (count - 3)) × (65537 ≡ length input)
+Inv-loop sheet input₀ page₀ words₀ count i₀ t9 t10 input page words i = 65537 ≡ length input
 
 abbrev μ-loop : tie.MeasureT-loop
-μ-loop sheet input₀ page₀ words₀ count i₀ input page words i = count - i
+μ-loop sheet input₀ page₀ words₀ count i₀ t9 t10 input page words i = count - i
+
+loop-less : tie.Need-loop-less Inv-loop μ-loop
+loop-less c =
+    let next = c .before .before .before .before .before .before .before .before .before .before .next in
+    omega (arith, c .if3 .left, next .ensures .1 (omega (arith, c .if3 .left)))
 
 pub main-spec : {M : Type 1} → statement M
 main-spec =
@@ -26,9 +32,14 @@ main-spec =
     (λ c κs. search needs)
     (λ c. search needs)
     (λ c. search needs)
+    (λ c. search needs)
+    (λ c. search needs)
     (λ c κs. search needs)
     (λ c. search needs)
     (λ c. search needs)
     (λ c. search needs)
+    (λ c κs. search needs)
     (λ c. search needs)
+    (λ c. search needs)
+    loop-less
     (λ c. search needs))

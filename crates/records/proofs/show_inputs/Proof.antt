@@ -1,6 +1,7 @@
--- `records::show_inputs` is safe and ends. Before the test, the number is that of an argument, or 3 at most. Assumes nothing.
-use Prim.Native.Nat.{_+_, _-_, _≤_}
+-- `records::show_inputs` is safe and ends: each input leaves fewer. Assumes nothing.
+use Prim.Native.Nat.{_-_}
 use mathlib.Core.Path.{_≡_}
+use native.Mathlib.Omega.{arith}
 use lib.ListN.{length}
 use borrow.Author.Needs.{needs}
 use borrow.Author.Tests.{not-false}
@@ -9,19 +10,25 @@ use Rattle.records.proofs.show_inputs.Statement.{statement}
 use Rattle.records.proofs.show_inputs.Tie as tie
 
 abbrev Inv-loop : tie.InvT-loop
-Inv-loop path locked area₀ last₀ size count i₀ book₀ kept₀ area last i book kept = (i ≤ 3 + (count - 4)) × Held book area last kept × (length area ≡ length area₀) × (length last ≡ length last₀)
+Inv-loop path locked area₀ last₀ size count i₀ book₀ kept₀ input₀ t16 t17 area last i book kept input =
+    Held book area last kept × (length area ≡ length area₀) × (length last ≡ length last₀) × (65537 ≡ length input)
 
 abbrev μ-loop : tie.MeasureT-loop
-μ-loop path locked area₀ last₀ size count i₀ book₀ kept₀ area last i book kept = count - i
+μ-loop path locked area₀ last₀ size count i₀ book₀ kept₀ input₀ t16 t17 area last i book kept input = count - i
 
 loop-holds : tie.Need-loop-holds Inv-loop μ-loop
-loop-holds c = (search needs, c .before .before .before .before .before .pre, search needs, search needs)
+loop-holds c = (c .before .before .before .before .before .pre, search needs, search needs, search needs)
 
-show-input-requires : tie.Need-show-input-requires Inv-loop μ-loop
-show-input-requires c κs = c .before .before .loop .inv .1
+show-requires : tie.Need-show-requires Inv-loop μ-loop
+show-requires c κs = c .before .before .before .before .before .before .before .before .before .before .loop .inv .0
+
+loop-less : tie.Need-loop-less Inv-loop μ-loop
+loop-less c =
+    let next = c .before .before .before .before .before .before .before .before .before .before .before .before .before .before .before .next in
+    omega (arith, c .before .if3 .left, next .ensures .1 (omega (arith, c .before .if3 .left)))
 
 loop-again : tie.Need-loop-again Inv-loop μ-loop
-loop-again c = (search needs, c .before .before .before .before .before .before .before .before .show-input .ensures (not-false _ (c .before .before .if1 .left)), search needs, search needs)
+loop-again c = (c .before .before .before .before .before .before .before .before .show .ensures (not-false _ (c .before .before .if2 .left)), search needs, search needs, search needs)
 
 pub show-inputs-spec : {M : Type 1} → statement M
 show-inputs-spec =
@@ -33,13 +40,21 @@ show-inputs-spec =
     (λ c κs. search needs)
     (λ c. search needs)
     loop-holds
-    show-input-requires
+    (λ c. search needs)
+    (λ c. search needs)
+    (λ c. search needs)
+    (λ c κs. search needs)
+    (λ c. search needs)
+    (λ c. search needs)
+    (λ c. search needs)
+    (λ c. search needs)
+    (λ c. search needs)
+    show-requires
     (λ c. search needs)
     (λ c. search needs)
     (λ c. search needs)
     (λ c. search needs)
     (λ c. search needs)
     (λ c. search needs)
-    (λ c. search needs)
-    (λ c. search needs)
+    loop-less
     loop-again)
