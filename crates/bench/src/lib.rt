@@ -98,19 +98,6 @@ enum Field {
 
 // ---- bytes of a field. Each function is total, so that its callers show nothing.
 
-// The byte at a place; 0 past the end.
-fn byte_at(s: &[u8], i: usize) -> u8 {
-    if i < s.len() { s[i] } else { 0 }
-}
-
-// The two-byte number at a place.
-fn word_at(s: &[u8], i: usize) -> u16 {
-    if i < s.len() {
-        return tapa::pair(s[i], byte_at(s, i + 1));
-    }
-    0
-}
-
 // The bytes between two places, or none where there are no such.
 fn between(input: &[u8], from: usize, to: usize) -> &[u8] {
     if from <= to {
@@ -132,7 +119,7 @@ pub fn buffer() -> [u8; 2048]
 fn lent_size(contents: &[u8], most: usize) -> usize
     ensures { λ r. ⌜ r ≤ most ⌝ }
 {
-    let n = word_at(contents, 0) as usize;
+    let n = tapa::word_at(contents, 0) as usize;
     if n <= most { n } else { most }
 }
 
@@ -168,7 +155,7 @@ fn is_row(tag: u8, contents: &[u8]) -> bool {
     if contents.len() != 3 {
         return false;
     }
-    byte_at(contents, 2) <= 1
+    tapa::byte_at(contents, 2) <= 1
 }
 
 // Whether a field is a message to the data store: n, and the message.
@@ -179,7 +166,7 @@ fn is_for_store(tag: u8, contents: &[u8]) -> bool {
     if contents.len() < 2 {
         return false;
     }
-    word_at(contents, 0) as usize <= LARGEST
+    tapa::word_at(contents, 0) as usize <= LARGEST
 }
 
 // What is to be done with a field that is neither.
@@ -190,7 +177,7 @@ fn field_of(tag: u8, contents: &[u8], cutting: bool, started: bool) -> Field {
         _ => false,
     };
     if fits_lent(tag, contents.len()) {
-        if LARGEST < word_at(contents, 0) as usize {
+        if LARGEST < tapa::word_at(contents, 0) as usize {
             return Field::Word(answers::BROKEN);
         }
         if idle {
@@ -299,7 +286,7 @@ impl Parts {
             0x13 => self.on_begin(contents, from, to),
             0x15 => self.on_keeping(contents),
             0x18 => self.on_start(),
-            _ => self.on_replaced(word_at(contents, 0)),
+            _ => self.on_replaced(tapa::word_at(contents, 0)),
         }
     }
 
@@ -329,10 +316,10 @@ impl Parts {
 fn write(asked: &[u8], buffer: &mut [u8]) -> Came {
     let writing = message_writer::write(
         buffer,
-        word_at(asked, 0),
-        word_at(asked, 2),
-        byte_at(asked, 4),
-        byte_at(asked, 5),
+        tapa::word_at(asked, 0),
+        tapa::word_at(asked, 2),
+        tapa::byte_at(asked, 4),
+        tapa::byte_at(asked, 5),
         between(asked, 6, asked.len()),
     );
     answers::of_writing(answers::WRITTEN, writing)
@@ -364,7 +351,7 @@ fn ask_router(router: Router, tag: u8, asked: &[u8], reply: &mut [u8]) -> Routed
     if tag == 0x19 {
         return router.route(asked, reply);
     }
-    router.give_up(byte_at(asked, 0), word_at(asked, 1), reply)
+    router.give_up(tapa::byte_at(asked, 0), tapa::word_at(asked, 1), reply)
 }
 
 impl Parts {
@@ -422,7 +409,7 @@ impl Parts {
             0x12 => self.on_event(asked, buffer),
             0x14 => self.on_command(message, buffer),
             _ => {
-                let writing = psam_pieces::get_next(byte_at(asked, 0), buffer);
+                let writing = psam_pieces::get_next(tapa::byte_at(asked, 0), buffer);
                 Asked {
                     came: answers::of_writing(answers::COMMAND, writing),
                     next: self,
@@ -679,7 +666,7 @@ impl Bench {
         let contents = between(input, from, to);
         if is_row(tag, contents) {
             let before = self.parts;
-            let after = before.on_row(word_at(contents, 0), byte_at(contents, 2) == 1);
+            let after = before.on_row(tapa::word_at(contents, 0), tapa::byte_at(contents, 2) == 1);
             let mut gathered = self;
             gathered.parts = after;
             gathered.at = to;

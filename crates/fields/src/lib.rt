@@ -51,16 +51,6 @@ pub enum NextStep {
     End,
 }
 
-// The number whose two bytes stand from a place on.
-fn word_at(s: &[u8], i: usize) -> u16
-    requires { ⌜ i + 1 < length (now s) ⌝ }
-    ensures { λ r. ⌜ r ≡ wordAt (now (s .entry)) i ⌝ }
-{
-    let high = s[i];
-    let low = s[i + 1];
-    tapa::pair(high, low)
-}
-
 // What stands at a place.
 pub fn read_at(s: &[u8], at: usize) -> Read
     ensures { λ r. ⌜ r ≡ readAt (now (s .entry)) at ⌝ }
@@ -73,7 +63,7 @@ pub fn read_at(s: &[u8], at: usize) -> Read
     if left < 3 {
         return Read::Cut(tag);
     }
-    let long = word_at(s, at + 1) as usize;
+    let long = tapa::word_at(s, at + 1) as usize;
     if left - 3 < long {
         return Read::Cut(tag);
     }
@@ -97,7 +87,7 @@ fn row_in(s: &[u8], start: usize, long: usize) -> NextRow
         return NextRow::Torn;
     }
     NextRow::Row {
-        address: word_at(s, start),
+        address: tapa::word_at(s, start),
         opened: status == 1,
         next: start + long,
     }
@@ -139,7 +129,7 @@ fn step_in(s: &[u8], tag: u8, start: usize, long: usize) -> NextStep
         if long == 3 {
             return NextStep::GiveUp {
                 thread: s[start],
-                address: word_at(s, start + 1),
+                address: tapa::word_at(s, start + 1),
                 next,
             };
         }
@@ -148,7 +138,7 @@ fn step_in(s: &[u8], tag: u8, start: usize, long: usize) -> NextStep
     if tag == 4 {
         if long == 2 {
             return NextStep::Replaced {
-                address: word_at(s, start),
+                address: tapa::word_at(s, start),
                 next,
             };
         }

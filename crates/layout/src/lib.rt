@@ -45,25 +45,10 @@ fn wide(x: u16) -> usize
     x as usize
 }
 
-// The byte at a place; 0 past the end.
-fn byte_at(img: &[u8], at: usize) -> u8
-    ensures { λ r. ⌜ r ≡ getD (now (img .entry)) at 0 ⌝ }
-{
-    if at < img.len() { img[at] } else { 0 }
-}
-
 fn number_at(img: &[u8], at: usize) -> u16
     ensures { λ r. ⌜ (r ≡ getD (now (img .entry)) at 0) × (r ≤ 255) ⌝ }
 {
-    byte_at(img, at) as u16
-}
-
-// The two-byte number at a place.
-fn word_at(img: &[u8], at: usize) -> u16
-    requires { ⌜ at ≤ 1000000 ⌝ }
-    ensures { λ r. ⌜ r ≡ wordAt (now (img .entry)) at ⌝ }
-{
-    tapa::pair(byte_at(img, at), byte_at(img, at + 1))
+    tapa::byte_at(img, at) as u16
 }
 
 // ---- the parts of an image
@@ -72,7 +57,7 @@ fn word_at(img: &[u8], at: usize) -> u16
 pub fn held(img: &[u8]) -> usize
     ensures { λ r. ⌜ (r ≡ countIn (now (img .entry))) × (r ≤ 65535) ⌝ }
 {
-    wide(word_at(img, 62))
+    wide(tapa::word_at(img, 62))
 }
 
 // Row i of the table of files.
@@ -84,7 +69,7 @@ pub fn kind_in(img: &[u8], i: usize) -> Kind
     }
     let at = 14 + i * 3;
     Kind {
-        made: byte_at(img, at) == 1,
+        made: tapa::byte_at(img, at) == 1,
         keymax: number_at(img, at + 1),
         recmax: number_at(img, at + 2),
     }
@@ -106,7 +91,7 @@ pub fn entry_in(img: &[u8], i: usize) -> Entry
     let at = 64 + i * 6;
     Entry {
         file: number_at(img, at),
-        pointer: word_at(img, at + 1),
+        pointer: tapa::word_at(img, at + 1),
         slot: number_at(img, at + 3),
         keylen: number_at(img, at + 4),
         len: number_at(img, at + 5),
@@ -119,10 +104,10 @@ fn row_fits(img: &[u8], at: usize) -> bool
     requires { ⌜ at ≤ 1000000 ⌝ }
     ensures { λ r. ⌜ r ≡ rowFits (now (img .entry)) at ⌝ }
 {
-    if 1 < byte_at(img, at) {
+    if 1 < tapa::byte_at(img, at) {
         return false;
     }
-    byte_at(img, at + 2) <= 128
+    tapa::byte_at(img, at + 2) <= 128
 }
 
 fn table_fits(img: &[u8]) -> bool

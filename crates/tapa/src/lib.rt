@@ -7,8 +7,10 @@
 // A refusal has a name here and a number on the page; `number` goes from the one to the other.
 ghost use mathlib.Core.Path.{_≡_};
 ghost use Prim.Native.Nat.{_+_, _*_};
+ghost use lib.ListN.{getD};
 ghost use Rattle.tapa.specs.Address.{categoryOf, handlerOf, multi};
 ghost use Rattle.tapa.specs.Refusals.{numberOf};
+ghost use Rattle.tapa.specs.Numbers.{wordAt};
 
 // The refusals 1 to 20, in the order of their numbers. 3 is a message with fewer bytes than it
 // announces (a cable lost some), 19 one with more (two came as one, or a stale byte). 14 is a give up
@@ -155,6 +157,23 @@ pub fn pair(high: u8, low: u8) -> u16
     ensures { λ r. ⌜ r ≡ high * 256 + low ⌝ }
 {
     high as u16 * 256 + low as u16
+}
+
+// The byte at a place; 0 past the end.
+pub fn byte_at(s: &[u8], i: usize) -> u8
+    ensures { λ r. ⌜ r ≡ getD (now (s .entry)) i 0 ⌝ }
+{
+    if i < s.len() { s[i] } else { 0 }
+}
+
+// The number whose two bytes stand from a place on.
+pub fn word_at(s: &[u8], i: usize) -> u16
+    ensures { λ r. ⌜ r ≡ wordAt (now (s .entry)) i ⌝ }
+{
+    if s.len() <= i {
+        return 0;
+    }
+    pair(s[i], byte_at(s, i + 1))
 }
 
 pub fn category(address: u16) -> u8
