@@ -740,7 +740,7 @@ pub fn fresh() -> Bench
     let rows = router_rows::no_rows();
     let begun = start::start_with(rows);
     let router = begun.router;
-    let book = book::fresh();
+    let book = store_entries::fresh();
     let parts = Parts {
         queue,
         joiner,

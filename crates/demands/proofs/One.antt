@@ -44,6 +44,7 @@ one-result = record {
   replaced-in = router.one-replaced-in;
   part-to-send = sending.one-part-to-send;
   reply = λ h part before x y a b. replies.one-reply h part before a b x y;
+  pack = queue.one-pack;
   queue = λ es start p q. queue.one-queue p q es start;
   lent-queue = λ es start s t l m. queue.one-lent l m s t es start;
   handle = λ q message before h k a b. events.one-handle q message before a b h k;

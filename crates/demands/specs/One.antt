@@ -25,7 +25,7 @@ use Rattle.replies.specs.Replies.{Replies}
 use Rattle.queue.specs.declared.Event.{Event}
 use Rattle.queue.specs.declared.Queue.{Queue}
 use Rattle.queue.specs.declared.Stretch.{Stretch}
-use Rattle.queue.specs.Places.{queueOf, HoldsAt}
+use Rattle.queue.specs.Places.{Packs, queueOf, HoldsAt}
 use Rattle.events.specs.Ring.{HandlingAt}
 use Rattle.store.specs.Store as store
 use Rattle.store.specs.declared.Handled.{Handled}
@@ -105,7 +105,8 @@ pub record OneResult : Type 0 where
   pub part-to-send : (o : Outcome) (message reply : RefT (List ℕ)) → OnePart (Sending o message reply)
   -- replies (with_part, with_code)
   pub reply : (h : Head) (part before : List ℕ) → OneWith (λ a after. Replies h part before after a)
-  -- queue: a queue (fresh), the stretch and the array (add, take, clear); events
+  -- queue: the number of an event (pack), a queue (fresh), the stretch and the array (add, take, clear); events
+  pub pack : (e : Event) → One (Packs e)
   pub queue : (events : List Event) (start : ℕ) → One (λ q. HoldsAt q events start)
   pub lent-queue : (events : List Event) (start : ℕ) → OneWith (λ (s : Stretch) (places : List ℕ). HoldsAt (queueOf places s) events start)
   pub handle : (q : Queue) (message before : List ℕ) → OneWith (λ h after. HandlingAt q message before after h)

@@ -1,5 +1,8 @@
-// TODO: purpose of event_answers.
-use events::Checked;
+// What a message to the event queue comes to (section 13): `handle` is the queue's one door.
+//
+// A queue goes in by value and comes back by value beside the answer; in between its array is lent,
+// and worked on in place. A command is judged first, and nothing is done; then what was decided is
+// done, and then it is answered. The definitions and laws are room `events`'s.
 use events::Command;
 use events::Handled;
 use events::Outcome;
@@ -11,6 +14,7 @@ use queue::Search;
 use queue::Sought;
 use queue::Stretch;
 use replies::Answer;
+use replies::Checked;
 ghost use mathlib.Core.Path.{_≡_};
 ghost use Prim.Native.Nat.{_≤_};
 ghost use lib.ListN.{length};
@@ -110,10 +114,10 @@ fn apply(places: &mut [u32; 100], stretch: Stretch, outcome: Outcome) -> Stretch
     ensures { λ r. ⌜ HoldsAt (queueOf (now (places .exit)) r) (apply outcome (eventsIn (now (places .entry)) stretch)) (startAfter outcome (eventsIn (now (places .entry)) stretch) (stretch .start)) ⌝ }
 {
     match outcome {
-        Outcome::Added(event) => event_ring::add(places, stretch, event),
+        Outcome::Added(event) => event_changes::add(places, stretch, event),
         Outcome::Ignored => stretch,
-        Outcome::Taken(event) => event_ring::take(places, stretch, event),
-        Outcome::Emptied => event_ring::clear(places, stretch),
+        Outcome::Taken(event) => event_changes::take(places, stretch, event),
+        Outcome::Emptied => event_changes::clear(places, stretch),
         Outcome::Coded(_) => stretch,
     }
 }

@@ -1,10 +1,12 @@
-// TODO: purpose of event_asked.
-use events::Checked;
+// What a message asks of the event queue (section 13): whether it is the queue's, and its command.
+//
+// Nothing is looked up in the queue here: a message alone decides. What a command then comes to is
+// room `event_answers`'s; the definitions are room `events`'s.
 use events::Command;
 use message::Head;
-use message::Reading;
 use queue::Event;
 use queue::Search;
+use replies::Checked;
 use tapa::Refusal;
 ghost use mathlib.Core.Path.{_≡_};
 ghost use Prim.Native.Nat.{_+_, _≤_};
@@ -28,12 +30,9 @@ fn is_elsewhere(head: Head) -> bool
 pub fn check(message: &[u8], room: usize) -> Checked
     ensures { λ r. ⌜ r ≡ checked room (now (message .entry)) ⌝ }
 {
-    if room < 13 {
-        return Checked::Failed(Refusal::BufferTooSmall);
-    }
-    match message_reader::read(message) {
-        Reading::Refused(refusal) => Checked::Failed(refusal),
-        Reading::Message(head) => {
+    match replies::open(message, room, 13) {
+        Checked::Failed(refusal) => Checked::Failed(refusal),
+        Checked::Passed(head) => {
             if is_elsewhere(head) {
                 return Checked::Failed(Refusal::NotThisPartsMessage);
             }

@@ -1,42 +1,33 @@
 -- Laws of all that a message comes to.
 use Prim.Native.Nat.{ℕ, _+_, _≤_}
-use mathlib.Core.Path.{_≡_, refl, ap, _∙_}
-use mathlib.Core.Bool.{Bool, true, false, not, _||_, cond}
+use mathlib.Core.Path.{_≡_, refl}
+use mathlib.Core.Bool.{not, _||_}
 use mathlib.Core.List.{List, [], _∷_}
-use native.Mathlib.Omega.{arith}
 use lib.Dec.{eqb, ltb}
 use lib.ListN.{length, getD}
-use borrow.Author.Tests.{ltb-false}
 use Rattle.lists.specs.Lists.{checks}
-use Rattle.lists.proofs.Tests.{checks-said}
 use Rattle.tapa.specs.Numbers.{wordAt}
 use Rattle.tapa.specs.Address.{handlerOf}
 use Rattle.tapa.specs.Said.{Said, refused}
 use Rattle.tapa.specs.declared.Refusal.{Refusal}
 use Rattle.message.specs.declared.Head.{Head}
-use Rattle.message.specs.declared.Reading.{Reading}
-use Rattle.message.specs.Message.{headOf, readOf, partOf}
-use Rattle.message.proofs.Laws.{through-reading}
+use Rattle.message.specs.Message.{partOf}
 use Rattle.replies.specs.declared.Answer.{Answer}
 use Rattle.replies.specs.declared.Answer.the-variants.{Refused}
 use Rattle.replies.specs.Replies.{answerOf, Answers}
 use Rattle.replies.specs.Said.{saidAnswer}
+use Rattle.replies.proofs.Checking.{passed-room as least-room, through-checking}
 use Rattle.queue.specs.declared.Event.{Event}
 use Rattle.queue.specs.declared.Queue.{Queue}
 use Rattle.queue.specs.Places.{eventsOf, Lawful, startOf, HoldsAt}
-use Rattle.events.specs.declared.Checked.{Checked}
-use Rattle.events.specs.declared.Checked.the-variants.{Passed, Failed}
+use Rattle.replies.specs.declared.Checked.{Checked}
+use Rattle.replies.specs.declared.Checked.the-variants.{Passed, Failed}
 use Rattle.events.specs.declared.Outcome.{Outcome}
-use Rattle.events.specs.Events.{elsewhere, meantChecks, meant, roomChecks, checked, commandOf, judge, apply, carried, obeys, handled}
+use Rattle.events.specs.Events.{elsewhere, checked, commandOf, judge, apply, carried, obeys, handled}
 use Rattle.events.specs.Ring.{startAfter, startHandled, HandlingAt}
 
--- where a check's refusal did not come out, its test failed
-not-failed : (b : Bool) (r : Refusal) (rest : Checked) (h : Head) → cond b (Failed r) rest ≡ Passed h → b ≡ false
-not-failed true r rest h e = absurd (let z : _≡_ {A = ℕ} 0 1 = cc in omega arith)
-not-failed false r rest h e = refl
-
 pub passed-room : (room : ℕ) (message : List ℕ) (h : Head) → checked room message ≡ Passed h → 13 ≤ room
-passed-room room message h e = ltb-false room 13 (not-failed (ltb room 13) _ _ h e)
+passed-room room message h e = least-room elsewhere 13 room message h e
 
 module _ (q : Queue) (message before : List ℕ) where
   pub refusing : (r : Refusal) → Lawful q → checked (length before) message ≡ Failed r
@@ -65,10 +56,7 @@ pub said-answer : (es : List Event) (s reply : List ℕ) → saidAnswer (handled
     ∷ [])
     (saidAnswer (answerOf (carried (judge es (commandOf (getD s 4 0) (partOf s))))))
 unfolding handled elsewhere
-said-answer es s reply =
-    checks-said said (roomChecks (length reply)) (meant (readOf s))
-    ∙ ap (cond (ltb (length reply) 13) (refused 9))
-    (through-reading (λ (r : Reading). said (meant r)) _ s (checks-said said (meantChecks (headOf s)) (Passed (headOf s))))
+said-answer es s reply = through-checking elsewhere 13 (length reply) s said
   where
     said : Checked → Said
     said c = saidAnswer (obeys c es (partOf s) reply .answer)

@@ -19,7 +19,7 @@ use Rattle.queue.specs.Places.{placeFrom, eventsOf, Lawful, startOf, HoldsAt}
 use Rattle.queue.proofs.Taking.{alike, like-itself, meets-known}
 use Rattle.queue.proofs.Once.{one-queue}
 use Rattle.queue.proofs.Still.{oldest-still, added-still}
-use Rattle.events.specs.declared.Checked.the-variants.{Passed}
+use Rattle.replies.specs.declared.Checked.the-variants.{Passed}
 use Rattle.events.specs.declared.Command.the-variants.{Get, Find}
 use Rattle.events.specs.declared.Outcome.{Outcome}
 use Rattle.events.specs.declared.Outcome.the-variants.{Added, Taken, Coded}

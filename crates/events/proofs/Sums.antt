@@ -18,7 +18,7 @@ use Rattle.message.proofs.Sums.{c2}
 use Rattle.replies.specs.declared.Answer.the-variants.{Reply}
 use Rattle.replies.specs.Said.{saidAnswer}
 use Rattle.queue.specs.declared.Event.{Event}
-use Rattle.events.specs.declared.Checked.the-variants.{Passed}
+use Rattle.replies.specs.declared.Checked.the-variants.{Passed}
 use Rattle.events.specs.declared.Command.the-variants.{Get, Flush}
 use Rattle.events.specs.Events.{elsewhere, checked, commandOf, judge, apply, Result, handled}
 

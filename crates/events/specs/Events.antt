@@ -11,13 +11,13 @@ use Rattle.tapa.specs.Address.{handlerOf}
 use Rattle.tapa.specs.Codes.{successful, unsupportedOperation, noEvents, noMatchingEvents, response, addEvent, getEvent, findEvent, flushQueue, eventHandler}
 use Rattle.tapa.specs.Numbers.{wordAt, twoBytes}
 use Rattle.tapa.specs.declared.Refusal.{Refusal}
-use Rattle.tapa.specs.declared.Refusal.the-variants.{BufferTooSmall, NotThisPartsMessage}
 use Rattle.message.specs.declared.Head.{Head}
-use Rattle.message.specs.declared.Reading.{Reading}
-use Rattle.message.specs.declared.Reading.the-variants.{Message, Refused as NoMessage}
-use Rattle.message.specs.Message.{readOf, partOf}
+use Rattle.message.specs.Message.{partOf}
 use Rattle.replies.specs.declared.Answer.{Answer}
 use Rattle.replies.specs.declared.Answer.the-variants.{Refused}
+use Rattle.replies.specs.declared.Checked.{Checked}
+use Rattle.replies.specs.declared.Checked.the-variants.{Passed, Failed}
+use Rattle.replies.specs.Checked.{opened, owned}
 use Rattle.replies.specs.Replies.{answerOf, replied}
 use Rattle.queue.specs.declared.Event.{Event}
 use Rattle.queue.specs.declared.Search.{Search}
@@ -29,8 +29,6 @@ use Rattle.events.specs.declared.Command.{Command}
 use Rattle.events.specs.declared.Command.the-variants.{Add, WrongAdd, Get, Find, Flush, Wrong}
 use Rattle.events.specs.declared.Outcome.{Outcome}
 use Rattle.events.specs.declared.Outcome.the-variants.{Added, Ignored, Taken, Emptied, Coded}
-use Rattle.events.specs.declared.Checked.{Checked}
-use Rattle.events.specs.declared.Checked.the-variants.{Passed, Failed}
 use Rattle.events.specs.declared.Handled.{Handled}
 
 -- ---- the checks
@@ -39,20 +37,9 @@ use Rattle.events.specs.declared.Handled.{Handled}
 unfoldable pub elsewhere : Head → Bool
 elsewhere h = not (eqb (handlerOf (h .destination)) eventHandler) || eqb (h .kind) response
 
--- 'then 1, 2, 3, then destination handler not '0700' or type 'FF' (15)'; the reader has 19 at the place of 3 (request 04)
-abbrev pub meantChecks : Head → List (Bool × Checked)
-meantChecks h = (elsewhere h, Failed NotThisPartsMessage) ∷ []
-
-abbrev pub meant : Reading → Checked
-meant (NoMessage r) = Failed r
-meant (Message h) = checks (meantChecks h) (Passed h)
-
--- 'Checks: reply buffer under 13 (9)', and then these; 'The thread may be any byte.'
-abbrev pub roomChecks : ℕ → List (Bool × Checked)
-roomChecks room = (ltb room 13, Failed BufferTooSmall) ∷ []
-
+-- 'Checks: reply buffer under 13 (9), then 1, 2, 3, then destination handler not '0700' or type 'FF' (15).'
 abbrev pub checked : ℕ → List ℕ → Checked
-checked room message = checks (roomChecks room) (meant (readOf message))
+checked room message = owned elsewhere (opened 13 room message)
 
 -- ---- what is asked
 

@@ -9,8 +9,8 @@ use Rattle.queue.specs.declared.Queue.{Queue}
 use Rattle.queue.specs.Places.{eventsOf, queueOf, startOf, startWithout}
 use Rattle.events.specs.declared.Outcome.{Outcome}
 use Rattle.events.specs.declared.Outcome.the-variants.{Added, Ignored, Taken, Emptied, Coded}
-use Rattle.events.specs.declared.Checked.{Checked}
-use Rattle.events.specs.declared.Checked.the-variants.{Passed, Failed}
+use Rattle.replies.specs.declared.Checked.{Checked}
+use Rattle.replies.specs.declared.Checked.the-variants.{Passed, Failed}
 use Rattle.events.specs.declared.Handled.{Handled}
 use Rattle.events.specs.declared.Step.{Step}
 use Rattle.events.specs.Events.{checked, commandOf, judge, handled, Handling}

@@ -49,7 +49,7 @@ fn create_code(b: Book, n: u8, recmax: u16) -> u16
     if 128 < recmax {
         return tapa::UNSUPPORTED_OPERATION;
     }
-    if 16 < book::files_held(b) + n as usize {
+    if 16 < store_kinds::files_held(b) + n as usize {
         return tapa::INSUFFICIENT_RESOURCES;
     }
     tapa::SUCCESSFUL
@@ -68,7 +68,7 @@ pub fn create(b: Book, n: u8, keymax: u8, recmax: u16) -> Made
     let mut next = b;
     let mut i = 0;
     while i < most {
-        let one = book::with_file(next, keymax as u16, recmax);
+        let one = store_kinds::with_file(next, keymax as u16, recmax);
         ids[i] = one.id;
         next = one.next;
         i += 1;
@@ -87,14 +87,14 @@ fn swept(b: Book, area: &mut [u8]) -> Book
     requires { ⌜ Shaped b ⌝ }
     ensures { λ r. ⌜ (r ≡ sweptBook b) × (now (area .exit) ≡ sweptArea (b .kinds) (entriesOf b) (now (area .entry))) ⌝ }
 {
-    let n = book::held(b);
-    let mut next = book::emptied(b);
+    let n = store_entries::held(b);
+    let mut next = store_entries::emptied(b);
     let mut i = 0;
     while i < n {
-        let x = book::entry_at(b, i);
-        let k = book::kind_of(b, x.file);
+        let x = store_entries::entry_at(b, i);
+        let k = store_kinds::kind_of(b, x.file);
         if k.made {
-            next = book::pushed(next, x);
+            next = store_entries::pushed(next, x);
         } else {
             slots::wipe(area, x.slot);
         }
@@ -113,14 +113,14 @@ fn left_of(b: Book, ids: &[u8]) -> Left
     let mut i = 0;
     while i < n {
         let f = tapa::pair(ids[i * 2], ids[i * 2 + 1]);
-        let k = book::kind_of(left, f);
+        let k = store_kinds::kind_of(left, f);
         if !k.made {
             return Left {
                 known: false,
                 left: b,
             };
         }
-        left = book::with_kind(left, f, book::no_kind());
+        left = store_kinds::with_kind(left, f, store_kinds::no_kind());
         i += 1;
     }
     Left { known: true, left }
@@ -149,17 +149,17 @@ pub fn clear(b: Book, area: &mut [u8], f: u16) -> Erased
     requires { ⌜ Lawful b (now area) ⌝ }
     ensures { λ r. ⌜ (r ≡ clearOf b f) × (now (area .exit) ≡ clearArea b (now (area .entry)) f) ⌝ }
 {
-    let k = book::kind_of(b, f);
+    let k = store_kinds::kind_of(b, f);
     if !k.made {
         return Erased {
             code: tapa::INVALID_FILE_ID,
             next: b,
         };
     }
-    let left = book::with_kind(b, f, book::no_kind());
+    let left = store_kinds::with_kind(b, f, store_kinds::no_kind());
     let next = swept(left, area);
     Erased {
         code: tapa::SUCCESSFUL,
-        next: book::with_kind(next, f, k),
+        next: store_kinds::with_kind(next, f, k),
     }
 }

@@ -87,7 +87,7 @@ fn put_kinds(out: &mut [u8], b: Book)
 {
     let mut i: u16 = 0;
     while i < 16 {
-        put_kind(out, 14 + i as usize * 3, book::kind_of(b, i + 1));
+        put_kind(out, 14 + i as usize * 3, store_kinds::kind_of(b, i + 1));
         i += 1;
     }
 }
@@ -96,10 +96,10 @@ fn put_entries(out: &mut [u8], b: Book, area: &[u8])
     requires { ⌜ (64 + length (entriesOf b) * 6 ≤ length (now out)) × Storable b (now area) ⌝ }
     ensures { λ _. ⌜ now (out .exit) ≡ over (now (out .entry)) 64 (flat entryBytes (entriesOf b)) ⌝ }
 {
-    let n = book::held(b);
+    let n = store_entries::held(b);
     let mut i = 0;
     while i < n {
-        put_entry(out, 64 + i * 6, book::entry_at(b, i));
+        put_entry(out, 64 + i * 6, store_entries::entry_at(b, i));
         i += 1;
     }
 }
@@ -109,10 +109,10 @@ fn put_slots(out: &mut [u8], from: usize, b: Book, area: &[u8])
     requires { ⌜ (from + length (entriesOf b) * 383 ≤ length (now out)) × Storable b (now area) ⌝ }
     ensures { λ _. ⌜ now (out .exit) ≡ over (now (out .entry)) from (flat (slotBytes (now (area .entry))) (entriesOf b)) ⌝ }
 {
-    let n = book::held(b);
+    let n = store_entries::held(b);
     let mut i = 0;
     while i < n {
-        let x = book::entry_at(b, i);
+        let x = store_entries::entry_at(b, i);
         put(out, from + i * 383, slots::part(area, x.slot, 0, 383));
         i += 1;
     }
@@ -123,7 +123,7 @@ pub fn save(b: Book, area: &[u8], out: &mut [u8]) -> Saved
     requires { ⌜ Storable b (now area) ⌝ }
     ensures { λ r. ⌜ (r ≡ savedOf b (now (out .entry))) × (now (out .exit) ≡ savedIn b (now (area .entry)) (now (out .entry))) ⌝ }
 {
-    let n = book::held(b);
+    let n = store_entries::held(b);
     let size = 68 + n * 389;
     if out.len() < size {
         return Saved::Small;
@@ -161,7 +161,7 @@ fn refusal(verdict: Verdict) -> Loaded
 {
     Loaded {
         verdict,
-        book: book::fresh(),
+        book: store_entries::fresh(),
     }
 }
 
@@ -169,10 +169,10 @@ fn refusal(verdict: Verdict) -> Loaded
 fn with_kinds(img: &[u8]) -> Book
     ensures { λ r. ⌜ r ≡ bookOf (tableIn (now (img .entry))) [] ⌝ }
 {
-    let mut next = book::fresh();
+    let mut next = store_entries::fresh();
     let mut i: u16 = 0;
     while i < 16 {
-        next = book::with_kind(next, i + 1, layout::kind_in(img, i as usize));
+        next = store_kinds::with_kind(next, i + 1, layout::kind_in(img, i as usize));
         i += 1;
     }
     next
@@ -187,7 +187,7 @@ fn book_in(img: &[u8]) -> Book
     let n = layout::held(img);
     let mut i = 0;
     while i < n {
-        next = book::pushed(next, layout::entry_in(img, i));
+        next = store_entries::pushed(next, layout::entry_in(img, i));
         i += 1;
     }
     next

@@ -65,7 +65,7 @@ pub fn kind_in(img: &[u8], i: usize) -> Kind
     ensures { λ r. ⌜ r ≡ getD (tableIn (now (img .entry))) i noKind ⌝ }
 {
     if 16 <= i {
-        return book::no_kind();
+        return store_kinds::no_kind();
     }
     let at = 14 + i * 3;
     Kind {
@@ -128,7 +128,7 @@ fn row_of(img: &[u8], f: u16) -> Kind
     ensures { λ r. ⌜ r ≡ kindOf (tableIn (now (img .entry))) f ⌝ }
 {
     if f == 0 {
-        return book::no_kind();
+        return store_kinds::no_kind();
     }
     kind_in(img, wide(f) - 1)
 }

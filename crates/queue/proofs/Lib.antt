@@ -1,4 +1,5 @@
 pub mod Laws
 pub mod Taking
 pub mod Once
+pub mod Searching
 pub mod Still

@@ -13,11 +13,11 @@ use Rattle.queue.specs.declared.Event.{Event}
 use Rattle.queue.specs.declared.Queue.{Queue}
 use Rattle.queue.specs.declared.Stretch.{Stretch}
 use Rattle.queue.specs.Events.{most}
-use Rattle.queue.specs.Places.{eventIn, placeFrom, numberAt, eventsFrom, eventsOf, queueOf, Lawful, HoldsAt}
+use Rattle.queue.specs.Places.{eventIn, Packs, placeFrom, numberAt, eventsFrom, eventsOf, queueOf, Lawful, HoldsAt}
 use Rattle.queue.proofs.Laws.{len, reached}
 
 -- 'It holds at most 100 events'
-pub at-most : (q : Queue) → Lawful q → length (eventsOf q) ≤ most
+pub at-most : (q : Queue) → Lawful q → length (eventsOf q) ≤ 100
 at-most q w = omega (arith, len (q .places) (q .start) 0 (q .count), w .few)
 
 -- ---- a queue is known by its events and its start
@@ -85,6 +85,10 @@ module _ (p q : Queue) (hp : Lawful p) (hq : Lawful q) (e : eventsOf p ≡ event
 -- so two calls that hand back a queue that holds these events in a ring that begins here hand back the same one
 pub one-queue : (p q : Queue) (es : List Event) (s : ℕ) → HoldsAt p es s → HoldsAt q es s → p ≡ q
 one-queue p q es s x y = determined p q (x .holds .law) (y .holds .law) (x .holds .events ∙ sym (y .holds .events)) (x .begins ∙ sym (y .begins))
+
+-- two numbers that keep the same event are the same
+pub one-pack : (e : Event) (x y : ℕ) → Packs e x → Packs e y → x ≡ y
+one-pack e x y p q = one-number x y (p .small) (q .small) (p .back ∙ sym (q .back))
 
 -- and two that change a lent array so leave the same numbers in it, and answer the same stretch
 pub one-lent : (l m : List ℕ) (s t : Stretch) (es : List Event) (start : ℕ) → HoldsAt (queueOf l s) es start → HoldsAt (queueOf m t) es start → (s ≡ t) × (l ≡ m)

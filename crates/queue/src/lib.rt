@@ -4,14 +4,16 @@
 // So taking the oldest frees its place and begins the ring at the next one: no event moves. Adding
 // writes one place. Only Find closes a gap, and then the younger events move.
 //
-// A queue is a value. The functions work in place on its array, which the caller lends, so that no
-// call copies it; the caller keeps the stretch that they hand back. What they promise speaks of the
-// list of events (`eventsIn`) and of where the ring then begins. How an event is packed, and at
-// which place it stands, is said in specs/Places.antt, and nobody else has to know it.
+// A queue is a value. The rooms `event_ring` (look-ups) and `event_changes` work in place on its
+// array, which the caller lends, so that no call copies it; the caller keeps the stretch that they
+// hand back. What they promise speaks of the list of events (`eventsIn`) and of where the ring then
+// begins. How an event is packed, and at which place it stands, is said in specs/Places.antt, and
+// nobody else has to know it.
+//
+// Here are the definitions, their laws, and what concerns one event or one place.
 ghost use mathlib.Core.Path.{_≡_};
-ghost use Rattle.lists.specs.Lists.{first};
-ghost use Rattle.queue.specs.Events.{most, oldest, knownSearch, meets};
-ghost use Rattle.queue.specs.Places.{Packs, eventIn};
+ghost use Rattle.queue.specs.Events.{knownSearch, meets};
+ghost use Rattle.queue.specs.Places.{Packs, eventIn, placeFrom};
 
 // A type byte and the address where it happened.
 pub struct Event {
@@ -44,6 +46,8 @@ pub enum Sought {
     Nothing,
 }
 
+// ---- a search
+
 // Search types: bit 1 is by location, bit 2 by type, and all others are reserved.
 const BY_LOCATION: u8 = 1;
 
@@ -74,6 +78,15 @@ pub fn is_met(search: Search, event: Event) -> bool
         BY_BOTH => alike && there,
         _ => false,
     }
+}
+
+// ---- the ring
+
+// The place that lies this many places after a start: after place 99 comes place 0.
+pub fn place_from(start: usize, further: usize) -> usize
+    ensures { λ r. ⌜ r ≡ placeFrom start further ⌝ }
+{
+    (start % 100 + further % 100) % 100
 }
 
 // ---- an event as a number

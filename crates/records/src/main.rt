@@ -186,11 +186,11 @@ fn show(
     ensures { λ r. ⌜ Turned (now (area .exit)) (now (last .exit)) r ⌝ }
 {
     let mut page = io::buffer();
-    let mut cursor = ledger::begin();
+    let mut cursor = store_lines::begin();
     let mut book = b;
     let mut kept = size;
     loop {
-        let filled = ledger::fill_page(book, area, cursor, input, &mut page);
+        let filled = store_lines::fill_page(book, area, cursor, input, &mut page);
         let after = filled.book;
         book = after;
         let keeping = keep(path, locked, book, area, last, kept);
@@ -249,7 +249,7 @@ fn show_inputs(path: &[u8], locked: bool, b: Book, area: &mut [u8], last: &mut [
 fn begin(path: &[u8], locked: bool, area: &mut [u8], last: &mut [u8])
     requires { ⌜ (length (now area) ≡ 98048) × (length (now last) ≡ 99653) ⌝ }
 {
-    let book = book::fresh();
+    let book = store_entries::fresh();
     let keeping = keep(path, locked, book, area, last, 0);
     if keeping.done {
         show_inputs(path, locked, book, area, last, keeping.size);

@@ -1,4 +1,7 @@
-// A reply: what a part that is asked by messages says back.
+// What the parts that are asked by messages share: which messages they take, and what they say back.
+//
+// A message is taken where the lent buffer holds the part's longest reply, and where the reader
+// takes it; whether it is this part's is the part's own test (specs/Checked.antt).
 //
 // A reply is a response (type 'FF') to one message. Its source and destination are those of the
 // message, swapped exactly, and its thread is the same; only the data are the part's own. It is
@@ -8,10 +11,19 @@
 // refusal, and the buffer is left as it was. A part that knows that its reply fits has its length:
 // proofs/Laws.antt, `fitting`.
 use message::Head;
+use message::Reading;
 use message::Writing;
 use tapa::Refusal;
+ghost use mathlib.Core.Path.{_≡_};
 ghost use Rattle.tapa.specs.Numbers.{twoBytes};
+ghost use Rattle.replies.specs.Checked.{opened};
 ghost use Rattle.replies.specs.Replies.{Replies};
+
+// A message that a part may take, or why it is not looked at further.
+pub enum Checked {
+    Passed(Head),
+    Failed(Refusal),
+}
 
 // The length of the reply in the lent buffer, or why there is none. `Nothing` is of an Add Event,
 // which has no reply.
@@ -20,6 +32,24 @@ pub enum Answer {
     Nothing,
     Refused(Refusal),
 }
+
+// ---- what comes in
+
+// The checks that are the same for every part, in their order; `room` is the length of the reply
+// buffer, and `least` that of the part's longest reply.
+pub fn open(message: &[u8], room: usize, least: usize) -> Checked
+    ensures { λ r. ⌜ r ≡ opened least room (now (message .entry)) ⌝ }
+{
+    if room < least {
+        return Checked::Failed(Refusal::BufferTooSmall);
+    }
+    match message_reader::read(message) {
+        Reading::Refused(refusal) => Checked::Failed(refusal),
+        Reading::Message(head) => Checked::Passed(head),
+    }
+}
+
+// ---- what goes back
 
 // A response to the message with this head, with these data.
 pub fn with_part(reply: &mut [u8], head: Head, part: &[u8]) -> Answer

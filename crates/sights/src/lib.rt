@@ -40,7 +40,7 @@ fn pointer_at(b: Book, at: Found) -> u16
 {
     match at {
         Found::At(i) => {
-            let x = book::entry_at(b, i);
+            let x = store_entries::entry_at(b, i);
             x.pointer
         }
         Found::Nothing => 0,
@@ -63,10 +63,10 @@ fn other_pointer(b: Book, f: u16, o: u8, i: usize) -> u16
     ensures { λ r. ⌜ r ≡ otherAt o f (entriesOf b) i ⌝ }
 {
     if is_nextward(o) {
-        let z = book::first_from(b, i + 1, f, 0);
+        let z = store_searches::first_from(b, i + 1, f, 0);
         return pointer_at(b, z);
     }
-    let z = book::last_before(b, i, f);
+    let z = store_searches::last_before(b, i, f);
     pointer_at(b, z)
 }
 
@@ -79,19 +79,19 @@ fn seek(b: Book, f: u16, p: u16, o: u8) -> Found
         if p == 0 {
             return Found::Nothing;
         }
-        return book::first_from(b, 0, f, p);
+        return store_searches::first_from(b, 0, f, p);
     }
     if o == 2 {
-        return book::first_from(b, 0, f, 0);
+        return store_searches::first_from(b, 0, f, 0);
     }
-    book::last_before(b, book::held(b), f)
+    store_searches::last_before(b, store_entries::held(b), f)
 }
 
 pub fn get(b: Book, f: u16, p: u16, o: u8) -> Got
     requires { ⌜ Shaped b ⌝ }
     ensures { λ r. ⌜ r ≡ getOf b f p o ⌝ }
 {
-    let k = book::kind_of(b, f);
+    let k = store_kinds::kind_of(b, f);
     if !k.made {
         return none_got(tapa::INVALID_FILE_ID);
     }
@@ -117,16 +117,16 @@ pub fn find(b: Book, area: &[u8], f: u16, key: &[u8]) -> Got
     requires { ⌜ Lawful b (now area) ⌝ }
     ensures { λ r. ⌜ r ≡ findOf b (now (area .entry)) f (now (key .entry)) ⌝ }
 {
-    let k = book::kind_of(b, f);
+    let k = store_kinds::kind_of(b, f);
     if !k.made {
         return none_got(tapa::INVALID_FILE_ID);
     }
     if (k.keymax as usize) < key.len() {
         return none_got(tapa::SEARCH_KEY_TOO_LARGE);
     }
-    match book::with_key(b, area, 0, f, key) {
+    match store_searches::with_key(b, area, 0, f, key) {
         Found::At(i) => {
-            let x = book::entry_at(b, i);
+            let x = store_entries::entry_at(b, i);
             Got {
                 code: tapa::SUCCESSFUL,
                 at: i,

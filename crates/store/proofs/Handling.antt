@@ -1,6 +1,6 @@
 -- All that a message comes to.
 use Prim.Native.Nat.{_+_, _-_, ℕ, _≤_}
-use mathlib.Core.Bool.{Bool, cond, false, not, true, _||_}
+use mathlib.Core.Bool.{not, _||_}
 use mathlib.Core.List.{List, [], _∷_}
 use mathlib.Core.Option.{some}
 use mathlib.Core.Path.{ap, refl, sym, _∙_, _≡_}
@@ -8,36 +8,27 @@ use native.Mathlib.Omega.{arith}
 use lib.Dec.{eqb, ltb}
 use lib.ListN.{drop, getD, length, length-append, replicate, take}
 use lib.Seq.{take-at}
-use borrow.Author.Tests.{ltb-false}
 use Rattle.book.specs.Book.{Lawful}
 use Rattle.book.specs.declared.Book.{Book}
 use Rattle.lists.proofs.Onto.{prefix}
-use Rattle.lists.proofs.Tests.{checks-said, differ}
 use Rattle.lists.specs.Lists.{checks, onto}
-use Rattle.message.proofs.Laws.{through-reading}
-use Rattle.message.specs.Message.{headOf, partOf, readOf}
+use Rattle.message.specs.Message.{partOf}
 use Rattle.message.specs.declared.Head.{Head}
-use Rattle.message.specs.declared.Reading.{Reading}
+use Rattle.replies.proofs.Checking.{passed-room as least-room, through-checking}
 use Rattle.replies.specs.Replies.{Answers, answerOf}
 use Rattle.replies.specs.Said.{saidAnswer}
 use Rattle.replies.specs.declared.Answer.{Answer}
 use Rattle.replies.specs.declared.Answer.the-variants.{Refused}
-use Rattle.store.specs.Store.{Handling, checked, deedOf, elsewhere, handled, meantChecks, meantFor, obeys, roomChecks}
-use Rattle.store.specs.declared.Checked.{Checked}
-use Rattle.store.specs.declared.Checked.the-variants.{Failed, Passed}
+use Rattle.store.specs.Store.{Handling, checked, deedOf, elsewhere, handled, obeys}
+use Rattle.replies.specs.declared.Checked.{Checked}
+use Rattle.replies.specs.declared.Checked.the-variants.{Failed, Passed}
 use Rattle.tapa.specs.Address.{categoryOf}
 use Rattle.tapa.specs.Numbers.{wordAt}
 use Rattle.tapa.specs.Said.{Said, refused}
 use Rattle.tapa.specs.declared.Refusal.{Refusal}
-use Rattle.tapa.specs.declared.Refusal.the-variants.{BufferTooSmall}
-
--- where a check's refusal did not come out, its test failed
-not-failed : (b : Bool) (r : Refusal) (rest : Checked) (h : Head) → cond b (Failed r) rest ≡ Passed h → b ≡ false
-not-failed true r rest h e = differ (cc)
-not-failed false r rest h e = refl
 
 pub passed-room : (room : ℕ) (message : List ℕ) (h : Head) → checked room message ≡ Passed h → 398 ≤ room
-passed-room room message h e = ltb-false room 398 (not-failed (ltb room 398) BufferTooSmall (meantFor (readOf message)) h e)
+passed-room room message h e = least-room elsewhere 398 room message h e
 
 module _ (b : Book) (area message before : List ℕ) where
   pub refusing : (r : Refusal) → Lawful b area → checked (length before) message ≡ Failed r
@@ -73,10 +64,7 @@ pub said-answer : (b : Book) (area s reply : List ℕ) → saidAnswer (handled b
     ∷ [])
     (saidAnswer (answerOf (some (deedOf (getD s 4 0) (partOf s) b area .part))))
 unfolding handled elsewhere
-said-answer b area s reply =
-    checks-said said (roomChecks (length reply)) (meantFor (readOf s))
-    ∙ ap (cond (ltb (length reply) 398) (refused 9))
-    (through-reading (λ (r : Reading). said (meantFor r)) _ s (checks-said said (meantChecks (headOf s)) (Passed (headOf s))))
+said-answer b area s reply = through-checking elsewhere 398 (length reply) s said
   where
     said : Checked → Said
     said c = saidAnswer (obeys c (partOf s) b area reply .answer)

@@ -14,8 +14,8 @@ use Rattle.message.specs.Message.{partOf}
 use Rattle.store.proofs.Right.{as-plain}
 use Rattle.store.specs.Plain.{tellsAfter, toldOf}
 use Rattle.store.specs.Store.{checked, handled}
-use Rattle.store.specs.declared.Checked.{Checked}
-use Rattle.store.specs.declared.Checked.the-variants.{Failed, Passed}
+use Rattle.replies.specs.declared.Checked.{Checked}
+use Rattle.replies.specs.declared.Checked.the-variants.{Failed, Passed}
 
 -- ---- at first
 

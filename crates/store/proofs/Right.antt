@@ -27,8 +27,8 @@ use Rattle.replies.specs.Replies.{answerOf, replied}
 use Rattle.sights.proofs.Sights.{find-right, get-right}
 use Rattle.store.specs.Plain.{Told, tellsAfter, toldOf}
 use Rattle.store.specs.Store.{Deed, Result, addDeed, checked, clearDeed, codeDeed, createDeed, deedIf, deedOf, deleteDeed, deleteFilesDeed, findDeed, findDeleteDeed, getDeed, handled, madeDeed, obeys, updateDeed}
-use Rattle.store.specs.declared.Checked.{Checked}
-use Rattle.store.specs.declared.Checked.the-variants.{Failed, Passed}
+use Rattle.replies.specs.declared.Checked.{Checked}
+use Rattle.replies.specs.declared.Checked.the-variants.{Failed, Passed}
 use Rattle.tapa.specs.Codes.{addRecord, clearFile, createFile, deleteFile, deleteRecord, findAndDelete, findRecord, getRecord, successful, unsupportedOperation, updateRecord}
 use Rattle.tapa.specs.Numbers.{twoBytes, wordAt}
 

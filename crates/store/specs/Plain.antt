@@ -11,8 +11,8 @@ use Rattle.replies.specs.Replies.{answerOf, replied}
 use Rattle.replies.specs.declared.Answer.{Answer}
 use Rattle.replies.specs.declared.Answer.the-variants.{Refused}
 use Rattle.store.specs.Store.{checked}
-use Rattle.store.specs.declared.Checked.{Checked}
-use Rattle.store.specs.declared.Checked.the-variants.{Failed, Passed}
+use Rattle.replies.specs.declared.Checked.{Checked}
+use Rattle.replies.specs.declared.Checked.the-variants.{Failed, Passed}
 
 pub record Told : Type 0 where
   pub answer : Answer

@@ -4,7 +4,7 @@ use mathlib.Core.Bool.{Bool, cond, not, _||_}
 use mathlib.Core.List.{List, [], _∷_}
 use mathlib.Core.Option.{some}
 use mathlib.Core.Path.{_≡_}
-use lib.Dec.{eqb, ltb}
+use lib.Dec.{eqb}
 use lib.ListN.{getD, length, take}
 use Rattle.book.specs.Book.{Lawful, entriesOf}
 use Rattle.book.specs.declared.Book.{Book}
@@ -13,27 +13,25 @@ use Rattle.file_commands.specs.declared.Erased.{Erased}
 use Rattle.file_commands.specs.declared.Made.{Made}
 use Rattle.files.specs.Asked.{carrying, dataFrom, fileIn, getShape, idsOf, idsShape, keyFrom, keyShape, recordShape, seenPart, wordsOf}
 use Rattle.lists.specs.Lists.{checks, onto}
-use Rattle.message.specs.Message.{partOf, readOf}
+use Rattle.message.specs.Message.{partOf}
 use Rattle.message.specs.declared.Head.{Head}
-use Rattle.message.specs.declared.Reading.{Reading}
-use Rattle.message.specs.declared.Reading.the-variants.{Message, Refused as NoMessage}
 use Rattle.record_commands.specs.Records.{addArea, addOf, deleteArea, deleteOf, findDeleteArea, findDeleteOf, updateArea, updateOf}
 use Rattle.record_commands.specs.declared.Added.{Added}
 use Rattle.record_commands.specs.declared.Deleted.{Deleted}
+use Rattle.replies.specs.Checked.{opened, owned}
 use Rattle.replies.specs.Replies.{answerOf, replied}
 use Rattle.replies.specs.declared.Answer.{Answer}
 use Rattle.replies.specs.declared.Answer.the-variants.{Refused}
+use Rattle.replies.specs.declared.Checked.{Checked}
+use Rattle.replies.specs.declared.Checked.the-variants.{Failed, Passed}
 use Rattle.sights.specs.Sights.{findOf, getOf, sightOf}
 use Rattle.sights.specs.declared.Got.{Got}
-use Rattle.store.specs.declared.Checked.{Checked}
-use Rattle.store.specs.declared.Checked.the-variants.{Failed, Passed}
 use Rattle.store.specs.declared.Done.{Done}
 use Rattle.store.specs.declared.Handled.{Handled}
 use Rattle.tapa.specs.Address.{categoryOf, dataStore}
 use Rattle.tapa.specs.Codes.{addRecord, clearFile, createFile, deleteFile, deleteRecord, findAndDelete, findRecord, getRecord, response, successful, unsupportedOperation, updateRecord}
 use Rattle.tapa.specs.Numbers.{twoBytes, wordAt}
 use Rattle.tapa.specs.declared.Refusal.{Refusal}
-use Rattle.tapa.specs.declared.Refusal.the-variants.{BufferTooSmall, NotThisPartsMessage}
 
 -- ---- the checks
 
@@ -41,20 +39,9 @@ use Rattle.tapa.specs.declared.Refusal.the-variants.{BufferTooSmall, NotThisPar
 unfoldable pub elsewhere : Head → Bool
 elsewhere h = not (eqb (categoryOf (h .destination)) dataStore) || eqb (h .kind) response
 
--- 'Refusals: 9, 1, 2, 3 and 15 as for the event queue'; the reader has 19 at the place of 3 (request 04)
-abbrev pub meantChecks : Head → List (Bool × Checked)
-meantChecks h = (elsewhere h, Failed NotThisPartsMessage) ∷ []
-
-abbrev pub meantFor : Reading → Checked
-meantFor (NoMessage r) = Failed r
-meantFor (Message h) = checks (meantChecks h) (Passed h)
-
--- 'the longest response as the least buffer size': 398 = 8 + 1 + 255 + 2 + 128 + 2 + 2
-abbrev pub roomChecks : ℕ → List (Bool × Checked)
-roomChecks room = (ltb room 398, Failed BufferTooSmall) ∷ []
-
+-- 'Refusals: 9, 1, 2, 3 and 15 as for the event queue', 'the longest response as the least buffer size': 398 = 8 + 1 + 255 + 2 + 128 + 2 + 2
 abbrev pub checked : ℕ → List ℕ → Checked
-checked room message = checks (roomChecks room) (meantFor (readOf message))
+checked room message = owned elsewhere (opened 398 room message)
 
 -- ---- what a command comes to: the response's data, the next book, and the area
 

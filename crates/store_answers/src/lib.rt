@@ -1,9 +1,15 @@
-// TODO: purpose of store_answers.
+// What a message to the data store comes to (section 11): `handle` is the store's one door.
+//
+// The book goes in by value and comes back by value beside the answer; the kiosk lends the area of
+// 98,048 bytes in which the keys and the data stand, and the buffer for the reply. What both hold
+// after a call is part of the contract, also of a refusal. A response's data are written into a
+// buffer of their own, since the reply is not touched before the command is done. The definitions
+// and laws are room `store`'s.
 use book::Book;
 use book::Entry;
 use replies::Answer;
+use replies::Checked;
 use sights::Got;
-use store::Checked;
 use store::Done;
 use store::Handled;
 ghost use Prim.Native.Nat.{_*_, _+_, _≤_};
@@ -101,7 +107,7 @@ fn shown(b: Book, area: &[u8], body: &mut [u8], got: Got) -> Done
     if code != tapa::SUCCESSFUL {
         return code_alone(b, body, code);
     }
-    let n = put_record(body, area, book::entry_at(b, got.at), got.other);
+    let n = put_record(body, area, store_entries::entry_at(b, got.at), got.other);
     Done {
         long: put_word(body, n, code),
         next: b,
@@ -119,13 +125,8 @@ fn on_create(b: Book, area: &[u8], part: &[u8], body: &mut [u8]) -> Done
     if part.len() != 4 {
         return code_alone(b, body, tapa::UNSUPPORTED_OPERATION);
     }
-    let n = store_asked::byte_at(part, 0);
-    let made = file_commands::create(
-        b,
-        n,
-        store_asked::byte_at(part, 1),
-        store_asked::word_at(part, 2),
-    );
+    let n = tapa::byte_at(part, 0);
+    let made = file_commands::create(b, n, tapa::byte_at(part, 1), tapa::word_at(part, 2));
     let code = made.code;
     if code != tapa::SUCCESSFUL {
         return code_alone(made.next, body, code);
@@ -157,9 +158,9 @@ fn on_add(b: Book, area: &mut [u8], part: &[u8], body: &mut [u8]) -> Done
     if !store_asked::has_record(part, 2) {
         return code_alone(b, body, tapa::UNSUPPORTED_OPERATION);
     }
-    let f = store_asked::word_at(part, 0);
-    let end = 3 + store_asked::byte_at(part, 2) as usize;
-    let added = record_commands::add(b, area, f, &part[3..end], &part[end + 2..]);
+    let f = tapa::word_at(part, 0);
+    let end = 3 + tapa::byte_at(part, 2) as usize;
+    let added = store_adding::add(b, area, f, &part[3..end], &part[end + 2..]);
     code_behind(added.next, body, added.code, added.pointer)
 }
 
@@ -177,8 +178,8 @@ fn on_get(b: Book, area: &[u8], part: &[u8], body: &mut [u8]) -> Done
     }
     let got = sights::get(
         b,
-        store_asked::word_at(part, 0),
-        store_asked::word_at(part, 2),
+        tapa::word_at(part, 0),
+        tapa::word_at(part, 2),
         orientation,
     );
     shown(b, area, body, got)
@@ -192,10 +193,10 @@ fn on_update(b: Book, area: &mut [u8], part: &[u8], body: &mut [u8]) -> Done
     if !store_asked::has_record(part, 4) {
         return code_alone(b, body, tapa::UNSUPPORTED_OPERATION);
     }
-    let f = store_asked::word_at(part, 0);
-    let p = store_asked::word_at(part, 2);
-    let end = 5 + store_asked::byte_at(part, 4) as usize;
-    let added = record_commands::update(b, area, f, p, &part[5..end], &part[end + 2..]);
+    let f = tapa::word_at(part, 0);
+    let p = tapa::word_at(part, 2);
+    let end = 5 + tapa::byte_at(part, 4) as usize;
+    let added = store_adding::update(b, area, f, p, &part[5..end], &part[end + 2..]);
     code_behind(added.next, body, added.code, added.pointer)
 }
 
@@ -207,7 +208,7 @@ fn on_find(b: Book, area: &[u8], part: &[u8], body: &mut [u8]) -> Done
     if !store_asked::has_key(part) {
         return code_alone(b, body, tapa::UNSUPPORTED_OPERATION);
     }
-    let got = sights::find(b, area, store_asked::word_at(part, 0), &part[3..]);
+    let got = sights::find(b, area, tapa::word_at(part, 0), &part[3..]);
     shown(b, area, body, got)
 }
 
@@ -219,12 +220,7 @@ fn on_delete(b: Book, area: &mut [u8], part: &[u8], body: &mut [u8]) -> Done
     if part.len() != 4 {
         return code_alone(b, body, tapa::UNSUPPORTED_OPERATION);
     }
-    let gone = record_commands::delete(
-        b,
-        area,
-        store_asked::word_at(part, 0),
-        store_asked::word_at(part, 2),
-    );
+    let gone = store_deleting::delete(b, area, tapa::word_at(part, 0), tapa::word_at(part, 2));
     code_alone(gone.next, body, gone.code)
 }
 
@@ -236,7 +232,7 @@ fn on_find_delete(b: Book, area: &mut [u8], part: &[u8], body: &mut [u8]) -> Don
     if !store_asked::has_key(part) {
         return code_alone(b, body, tapa::UNSUPPORTED_OPERATION);
     }
-    let gone = record_commands::find_delete(b, area, store_asked::word_at(part, 0), &part[3..]);
+    let gone = store_deleting::find_delete(b, area, tapa::word_at(part, 0), &part[3..]);
     code_alone(gone.next, body, gone.code)
 }
 
@@ -248,7 +244,7 @@ fn on_clear(b: Book, area: &mut [u8], part: &[u8], body: &mut [u8]) -> Done
     if part.len() != 2 {
         return code_alone(b, body, tapa::UNSUPPORTED_OPERATION);
     }
-    let gone = file_commands::clear(b, area, store_asked::word_at(part, 0));
+    let gone = file_commands::clear(b, area, tapa::word_at(part, 0));
     code_alone(gone.next, body, gone.code)
 }
 

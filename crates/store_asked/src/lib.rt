@@ -1,14 +1,14 @@
-// TODO: purpose of store_asked.
+// What a message asks of the data store (section 11): whether it is the store's, and the fields of
+// its data part, read where they stand in the message.
+//
+// No book is looked at here: a message alone decides. The shapes are room `files`'s, the checks room
+// `store`'s.
 use message::Head;
-use message::Reading;
-use store::Checked;
+use replies::Checked;
 use tapa::Refusal;
-ghost use Prim.Native.Nat.{_+_, _≤_};
 ghost use mathlib.Core.Path.{_≡_};
-ghost use lib.ListN.{getD, length};
 ghost use Rattle.files.specs.Asked.{idsShape, keyShape, recordShape};
 ghost use Rattle.store.specs.Store.{checked, elsewhere};
-ghost use Rattle.tapa.specs.Numbers.{wordAt};
 
 // The shortest reply buffer: a head, and LEN_SKEY, 255 of key, LEN_REC, 128 of data, a pointer and a code.
 const LEAST: usize = 398;
@@ -30,12 +30,9 @@ fn is_elsewhere(head: Head) -> bool
 pub fn check(message: &[u8], room: usize) -> Checked
     ensures { λ r. ⌜ r ≡ checked room (now (message .entry)) ⌝ }
 {
-    if room < LEAST {
-        return Checked::Failed(Refusal::BufferTooSmall);
-    }
-    match message_reader::read(message) {
-        Reading::Refused(refusal) => Checked::Failed(refusal),
-        Reading::Message(head) => {
+    match replies::open(message, room, LEAST) {
+        Checked::Failed(refusal) => Checked::Failed(refusal),
+        Checked::Passed(head) => {
             if is_elsewhere(head) {
                 return Checked::Failed(Refusal::NotThisPartsMessage);
             }
@@ -46,29 +43,17 @@ pub fn check(message: &[u8], room: usize) -> Checked
 
 // ---- the readers of the data part
 
-// The byte at a place; 0 past the end.
-pub fn byte_at(part: &[u8], i: usize) -> u8
-    ensures { λ r. ⌜ r ≡ getD (now (part .entry)) i 0 ⌝ }
-{
-    if i < part.len() { part[i] } else { 0 }
-}
-
-// The two-byte number at a place.
-pub fn word_at(part: &[u8], i: usize) -> u16
-    requires { ⌜ i ≤ 1024 ⌝ }
-    ensures { λ r. ⌜ r ≡ wordAt (now (part .entry)) i ⌝ }
-{
-    tapa::pair(byte_at(part, i), byte_at(part, i + 1))
-}
-
 // Whether LEN_SKEY, key, LEN_REC and record data stand from a place on, and nothing else.
 pub fn has_record(part: &[u8], at: usize) -> bool
-    requires { ⌜ at ≤ 4 ⌝ }
     ensures { λ r. ⌜ r ≡ recordShape at (now (part .entry)) ⌝ }
 {
-    let key = byte_at(part, at) as usize;
-    let long = word_at(part, at + 1 + key) as usize;
-    if part.len() == at + 3 + key + long {
+    let size = part.len();
+    if size < at {
+        return false;
+    }
+    let key = tapa::byte_at(part, at) as usize;
+    let long = tapa::word_at(part, at + 1 + key) as usize;
+    if size == at + 3 + key + long {
         return long <= 128;
     }
     false
@@ -78,7 +63,7 @@ pub fn has_record(part: &[u8], at: usize) -> bool
 pub fn has_key(part: &[u8]) -> bool
     ensures { λ r. ⌜ r ≡ keyShape (now (part .entry)) ⌝ }
 {
-    part.len() == 3 + byte_at(part, 2) as usize
+    part.len() == 3 + tapa::byte_at(part, 2) as usize
 }
 
 // Whether there are identifiers, 1 to 16 of two bytes each.

@@ -1,7 +1,7 @@
 -- `event_answers::serve` meets its contract: a refusal leaves all as it was, and a command is read, judged, done and answered. Assumes nothing.
 use mathlib.Core.Path.{_≡_, sym, ap, _∙_}
 use lib.ListN.{length}
-use Rattle.events.specs.declared.Checked.the-variants.{Passed}
+use Rattle.replies.specs.declared.Checked.the-variants.{Passed}
 use Rattle.events.specs.Events.{checked, commandOf, judge}
 use Rattle.queue.specs.Places.{queueOf, eventsIn}
 use Rattle.events.proofs.Handling.{passed-room, refusing, obeyed}

@@ -11,7 +11,7 @@ use Rattle.replies.proofs.Laws.{fitting}
 use Rattle.replies.specs.Replies.{Replies}
 use Rattle.store.proofs.Handling.{obeyed, passed-room, refusing, start-fits, start-is}
 use Rattle.store.specs.Store.{Deed, Did, checked, deedOf}
-use Rattle.store.specs.declared.Checked.the-variants.{Passed}
+use Rattle.replies.specs.declared.Checked.the-variants.{Passed}
 use Rattle.store_answers.proofs.handle.Statement.{statement}
 use Rattle.store_answers.proofs.handle.Tie as tie
 

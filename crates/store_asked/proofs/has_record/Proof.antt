@@ -2,7 +2,8 @@
 use Prim.Native.Nat.{_+_, ℕ}
 use mathlib.Core.Bool.{false}
 use mathlib.Core.List.{List}
-use mathlib.Core.Path.{ap, sym, _∙_, _≡_}
+use mathlib.Core.Path.{ap, refl, sym, _∙_, _≡_}
+use native.Mathlib.Omega.{arith}
 use lib.Dec.{leb}
 use lib.ListN.{getD, length}
 use borrow.Author.Needs.{needs}
@@ -29,13 +30,32 @@ module _ (part : List ℕ) (at k r : ℕ) (ek : k ≡ getD part at 0) (er : r �
 
 returns : tie.Need-returns
 returns c =
-    let s = c .before .before .before .before in
-    fits (s .args .part .now) (s .args .at) _ _ (c .before .before .byte-at .ensures) (c .before .word-at .ensures) (c .if1 .taken)
+    let a = c .before .before .args in
+    differs (a .part .now) (a .at) _ _ refl refl (λ e. omega (arith, c .if1 .taken))
 
 returns-2 : tie.Need-returns-2
 returns-2 c =
-    let s = c .before .before .before .before in
-    differs (s .args .part .now) (s .args .at) _ _ (c .before .before .byte-at .ensures) (c .before .word-at .ensures) (c .if1 .left)
+    let s = c .before .before .before .before .before in
+    fits (s .args .part .now) (s .args .at) _ _ (c .before .before .byte-at .ensures) (c .before .word-at .ensures) (c .if2 .taken)
+
+returns-3 : tie.Need-returns-3
+returns-3 c =
+    let s = c .before .before .before .before .before in
+    differs (s .args .part .now) (s .args .at) _ _ (c .before .before .byte-at .ensures) (c .before .word-at .ensures) (c .if2 .left)
 
 pub has-record-spec : {M : Type 1} → statement M
-has-record-spec = tie.close (tie.spec (λ c κs. search needs) (λ c. search needs) (λ c. search needs) (λ c. search needs) (λ c κs. search needs) (λ c. search needs) (λ c. search needs) (λ c. search needs) (λ c. search needs) returns returns-2)
+has-record-spec =
+    tie.close
+    (tie.spec
+    returns
+    (λ c κs. search needs)
+    (λ c. search needs)
+    (λ c. search needs)
+    (λ c. search needs)
+    (λ c κs. search needs)
+    (λ c. search needs)
+    (λ c. search needs)
+    (λ c. search needs)
+    (λ c. search needs)
+    returns-2
+    returns-3)
