@@ -1,5 +1,5 @@
--- Each contract leaves one answer possible, with one content of the lent buffer.
--- `start_check` and `over` ensure an equation with a definition: two answers are then equal by it.
+-- Each contract of psam_commands leaves one answer possible, with one content of the lent buffer.
+-- `start_check` ensures an equation with a definition: two answers are then equal by it.
 use mathlib.Core.Path.{_≡_, sym, _∙_}
 use mathlib.Core.List.{List}
 use Prim.Native.Nat.{ℕ}

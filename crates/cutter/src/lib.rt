@@ -1,13 +1,9 @@
 // Towards the PSAM: a response cut into commands.
 //
-// The PSAM takes a response as commands of at most 248 data bytes each. `start_check` says
-// whether a message is a response that can be cut, `part_to_cut` is the data to cut, and
-// `cut_next` writes the command at a place into a lent buffer and answers the place after it.
-//
-// `Cutter` holds the data and the place for callers that like to have both in one value. Its
-// functions are thin: they take it apart and call the ones above.
-//
-// That the commands together carry the whole response: proofs/Whole.antt.
+// The PSAM takes a response as commands of at most 248 data bytes each. Here stand the cutter and its
+// answers, what a response is cut into (specs), and the laws of it: the commands together carry the
+// whole response, and no more are handed out than it takes (proofs/Whole.antt). The code is in
+// psam_commands.
 use tapa::Refusal;
 
 // Whether a message can be cut: a response's thread, or why not.

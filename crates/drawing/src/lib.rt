@@ -26,15 +26,12 @@ const HUB: u16 = 324;
 
 // ---- forms
 
-// One form more, where the list has room for it.
-fn add(list: &mut [usize], n: usize, form: [usize; 8]) -> usize {
+// One form more, where the list has room for it: for 256 forms.
+fn add(list: &mut [usize; 2048], n: usize, form: [usize; 8]) -> usize {
     if 255 < n {
         return n;
     }
     let at = n * 8;
-    if list.len() < at + 8 {
-        return n;
-    }
     let mut i = 0;
     while i < 8 {
         list[at + i] = form[i];
@@ -43,11 +40,18 @@ fn add(list: &mut [usize], n: usize, form: [usize; 8]) -> usize {
     n + 1
 }
 
-fn add_two(list: &mut [usize], n: usize, form: usize, a: usize, b: usize) -> usize {
+fn add_two(list: &mut [usize; 2048], n: usize, form: usize, a: usize, b: usize) -> usize {
     add(list, n, [form, a, b, 0, 0, 0, 0, 0])
 }
 
-fn add_three(list: &mut [usize], n: usize, form: usize, a: usize, b: usize, c: usize) -> usize {
+fn add_three(
+    list: &mut [usize; 2048],
+    n: usize,
+    form: usize,
+    a: usize,
+    b: usize,
+    c: usize,
+) -> usize {
     add(list, n, [form, a, b, c, 0, 0, 0, 0])
 }
 
@@ -124,7 +128,7 @@ fn bar_of(router: Router, address: u16, thread: usize) -> usize {
     lane_of(router, address) as usize + thread % 8 * 3
 }
 
-fn draw_place(list: &mut [usize], n: usize, router: Router, place: Place, y: u16) -> usize {
+fn draw_place(list: &mut [usize; 2048], n: usize, router: Router, place: Place, y: u16) -> usize {
     let form = if place.owed {
         stencil::OWED
     } else {
@@ -137,7 +141,7 @@ fn draw_place(list: &mut [usize], n: usize, router: Router, place: Place, y: u16
 
 // One place of the list, where it is in use.
 fn draw_used(
-    list: &mut [usize],
+    list: &mut [usize; 2048],
     n: usize,
     router: Router,
     place: Place,
@@ -151,7 +155,7 @@ fn draw_used(
 }
 
 // What has to be answered, and what is owed.
-fn draw_places(list: &mut [usize], n: usize, router: Router, y: u16) -> usize {
+fn draw_places(list: &mut [usize; 2048], n: usize, router: Router, y: u16) -> usize {
     let places = router.list;
     let mut next = n;
     let mut i = 0;
@@ -165,7 +169,7 @@ fn draw_places(list: &mut [usize], n: usize, router: Router, y: u16) -> usize {
 
 // A grey band, where a column's handler is closed.
 fn draw_band(
-    list: &mut [usize],
+    list: &mut [usize; 2048],
     n: usize,
     router: Router,
     column: usize,
@@ -182,7 +186,7 @@ fn draw_band(
     add_two(list, n, stencil::SHUT, x as usize + 16, y as usize + 20)
 }
 
-fn draw_bands(list: &mut [usize], n: usize, router: Router, y: u16) -> usize {
+fn draw_bands(list: &mut [usize; 2048], n: usize, router: Router, y: u16) -> usize {
     let cells = router.cells;
     let mut next = n;
     let mut i = 0;
@@ -196,7 +200,14 @@ fn draw_bands(list: &mut [usize], n: usize, router: Router, y: u16) -> usize {
 // ---- arrows; `h` is the height of one
 
 // The arrow's head: it points away from where the arrow begins.
-fn draw_head(list: &mut [usize], n: usize, thread: usize, from: u16, to: u16, h: u32) -> usize {
+fn draw_head(
+    list: &mut [usize; 2048],
+    n: usize,
+    thread: usize,
+    from: u16,
+    to: u16,
+    h: u32,
+) -> usize {
     let form = if from < to {
         stencil::RIGHT_HEAD
     } else {
@@ -206,7 +217,7 @@ fn draw_head(list: &mut [usize], n: usize, thread: usize, from: u16, to: u16, h:
 }
 
 // The thread's number in a circle, where the arrow begins.
-fn draw_thread(list: &mut [usize], n: usize, thread: usize, x: u16, h: u32) -> usize {
+fn draw_thread(list: &mut [usize; 2048], n: usize, thread: usize, x: u16, h: u32) -> usize {
     let next = add_three(
         list,
         n,
@@ -226,7 +237,7 @@ fn draw_thread(list: &mut [usize], n: usize, thread: usize, x: u16, h: u32) -> u
 }
 
 fn draw_line(
-    list: &mut [usize],
+    list: &mut [usize; 2048],
     n: usize,
     form: usize,
     thread: usize,
@@ -252,7 +263,7 @@ fn draw_line(
 
 // A line with its head and its thread.
 fn draw_arrow(
-    list: &mut [usize],
+    list: &mut [usize; 2048],
     n: usize,
     form: usize,
     thread: usize,
@@ -267,7 +278,7 @@ fn draw_arrow(
 
 // The type or the code, in the middle of an arrow; `base` is where its letters stand.
 fn draw_label(
-    list: &mut [usize],
+    list: &mut [usize; 2048],
     n: usize,
     form: usize,
     value: usize,
@@ -280,17 +291,24 @@ fn draw_label(
 }
 
 // A cross over the router's column, or over the bar of a thread.
-fn draw_cross(list: &mut [usize], n: usize, x: usize, y: u16) -> usize {
+fn draw_cross(list: &mut [usize; 2048], n: usize, x: usize, y: u16) -> usize {
     add_two(list, n, stencil::CROSS, x, y as usize + 14)
 }
 
 // ---- the words beside a step
 
-fn draw_addresses(list: &mut [usize], n: usize, form: usize, from: u16, to: u16, y: u16) -> usize {
+fn draw_addresses(
+    list: &mut [usize; 2048],
+    n: usize,
+    form: usize,
+    from: u16,
+    to: u16,
+    y: u16,
+) -> usize {
     add_three(list, n, form, y as usize + 17, from as usize, to as usize)
 }
 
-fn draw_type(list: &mut [usize], n: usize, kind: u8, y: u16) -> usize {
+fn draw_type(list: &mut [usize; 2048], n: usize, kind: u8, y: u16) -> usize {
     add_three(
         list,
         n,
@@ -301,7 +319,7 @@ fn draw_type(list: &mut [usize], n: usize, kind: u8, y: u16) -> usize {
     )
 }
 
-fn draw_code(list: &mut [usize], n: usize, code: u16, y: u16) -> usize {
+fn draw_code(list: &mut [usize; 2048], n: usize, code: u16, y: u16) -> usize {
     add_three(
         list,
         n,
@@ -320,7 +338,7 @@ fn colour_of(thread: u8) -> usize {
 
 // A question goes to who is asked.
 fn draw_question(
-    list: &mut [usize],
+    list: &mut [usize; 2048],
     n: usize,
     router: Router,
     asker: u16,
@@ -353,7 +371,7 @@ fn draw_question(
 }
 
 fn draw_passed(
-    list: &mut [usize],
+    list: &mut [usize; 2048],
     n: usize,
     router: Router,
     asker: u16,
@@ -366,7 +384,7 @@ fn draw_passed(
     draw_addresses(list, next, stencil::PASSED, asker, asked, y)
 }
 
-fn draw_event(list: &mut [usize], n: usize, router: Router, came: Arrival, y: u16) -> usize {
+fn draw_event(list: &mut [usize; 2048], n: usize, router: Router, came: Arrival, y: u16) -> usize {
     let next = draw_question(
         list,
         n,
@@ -381,7 +399,7 @@ fn draw_event(list: &mut [usize], n: usize, router: Router, came: Arrival, y: u1
 }
 
 fn draw_answered(
-    list: &mut [usize],
+    list: &mut [usize; 2048],
     n: usize,
     router: Router,
     asked: u16,
@@ -415,7 +433,13 @@ fn draw_answered(
 }
 
 // A reply that comes late ends at the router, in a filled square.
-fn draw_swallowed(list: &mut [usize], n: usize, router: Router, came: Arrival, y: u16) -> usize {
+fn draw_swallowed(
+    list: &mut [usize; 2048],
+    n: usize,
+    router: Router,
+    came: Arrival,
+    y: u16,
+) -> usize {
     let from = lane_of(router, came.from);
     let colour = colour_of(came.thread);
     let a = draw_line(list, n, stencil::ANSWER, colour, from, HUB, y as u32 + 20);
@@ -442,19 +466,19 @@ fn draw_swallowed(list: &mut [usize], n: usize, router: Router, came: Arrival, y
 }
 
 // The router's own answer to an asker.
-fn draw_reply(list: &mut [usize], n: usize, to: u16, thread: usize, h: u32) -> usize {
+fn draw_reply(list: &mut [usize; 2048], n: usize, to: u16, thread: usize, h: u32) -> usize {
     let next = draw_line(list, n, stencil::ANSWER, thread, HUB, to, h);
     draw_head(list, next, thread, HUB, to, h)
 }
 
 // The code of the router's own answer, beside the router's column and beside the step.
-fn draw_reply_code(list: &mut [usize], n: usize, code: u16, y: u16, base: usize) -> usize {
+fn draw_reply_code(list: &mut [usize; 2048], n: usize, code: u16, y: u16, base: usize) -> usize {
     let x = HUB as usize + 40;
     let next = add_three(list, n, stencil::CODE_LABEL, x, base, code as usize);
     draw_code(list, next, code, y)
 }
 
-fn draw_turned_words(list: &mut [usize], n: usize, came: Arrival, y: u16) -> usize {
+fn draw_turned_words(list: &mut [usize; 2048], n: usize, came: Arrival, y: u16) -> usize {
     let from = came.from as usize;
     let to = came.to as usize;
     add(
@@ -475,7 +499,7 @@ fn draw_turned_words(list: &mut [usize], n: usize, came: Arrival, y: u16) -> usi
 
 // A question that is turned back: as far as the router, a cross there, and the router's answer.
 fn draw_turned(
-    list: &mut [usize],
+    list: &mut [usize; 2048],
     n: usize,
     router: Router,
     came: Arrival,
@@ -494,7 +518,7 @@ fn draw_turned(
 
 // A wait that ends without its answer: a cross at who was asked, and the router's answer to the asker.
 fn draw_given(
-    list: &mut [usize],
+    list: &mut [usize; 2048],
     n: usize,
     router: Router,
     asker: u16,
@@ -511,14 +535,14 @@ fn draw_given(
     draw_addresses(list, d, stencil::GIVEN, asker, asked, y)
 }
 
-fn draw_reset(list: &mut [usize], n: usize, router: Router, handler: u16, y: u16) -> usize {
+fn draw_reset(list: &mut [usize; 2048], n: usize, router: Router, handler: u16, y: u16) -> usize {
     let x = lane_of(router, handler);
     let next = add_two(list, n, stencil::RING, x as usize + 16, y as usize + 20);
     draw_addresses(list, next, stencil::RESET, handler, handler, y)
 }
 
 // A refused step is a mark in the margin.
-fn draw_refused(list: &mut [usize], n: usize, number: u8, y: u16) -> usize {
+fn draw_refused(list: &mut [usize; 2048], n: usize, number: u8, y: u16) -> usize {
     let a = add_two(list, n, stencil::MARGIN_MARK, y as usize + 5, 0);
     let b = add_two(
         list,
@@ -537,7 +561,7 @@ fn draw_refused(list: &mut [usize], n: usize, number: u8, y: u16) -> usize {
 }
 
 fn draw_outcome(
-    list: &mut [usize],
+    list: &mut [usize; 2048],
     n: usize,
     router: Router,
     came: Arrival,
@@ -573,7 +597,7 @@ fn draw_outcome(
 
 // A step: how the columns stand after it, then the step itself over them.
 fn draw_step(
-    list: &mut [usize],
+    list: &mut [usize; 2048],
     n: usize,
     router: Router,
     came: Arrival,
@@ -589,7 +613,7 @@ fn draw_step(
 
 // ---- the last row
 
-fn draw_totals(list: &mut [usize], n: usize, sums: Totals, y: u16) -> usize {
+fn draw_totals(list: &mut [usize; 2048], n: usize, sums: Totals, y: u16) -> usize {
     let a = add(
         list,
         n,
@@ -614,7 +638,7 @@ fn draw_totals(list: &mut [usize], n: usize, sums: Totals, y: u16) -> usize {
     )
 }
 
-fn draw_bad_table(list: &mut [usize], n: usize, number: u8, y: u16) -> usize {
+fn draw_bad_table(list: &mut [usize; 2048], n: usize, number: u8, y: u16) -> usize {
     let name = names::refusal_name(number);
     add_three(
         list,
@@ -627,7 +651,7 @@ fn draw_bad_table(list: &mut [usize], n: usize, number: u8, y: u16) -> usize {
 }
 
 fn draw_item(
-    list: &mut [usize],
+    list: &mut [usize; 2048],
     n: usize,
     router: Router,
     came: Arrival,
@@ -648,7 +672,7 @@ fn draw_item(
 
 // The head of a column and its line.
 fn draw_column(
-    list: &mut [usize],
+    list: &mut [usize; 2048],
     n: usize,
     router: Router,
     column: usize,
@@ -676,7 +700,7 @@ fn draw_column(
     )
 }
 
-fn draw_columns(list: &mut [usize], n: usize, router: Router, end: usize) -> usize {
+fn draw_columns(list: &mut [usize; 2048], n: usize, router: Router, end: usize) -> usize {
     let cells = router.cells;
     let mut next = n;
     let mut i = 0;
@@ -708,7 +732,7 @@ fn height_of(total: usize) -> usize {
     pages * 1584
 }
 
-fn draw_legend(list: &mut [usize], n: usize, end: u16) -> usize {
+fn draw_legend(list: &mut [usize; 2048], n: usize, end: u16) -> usize {
     let next = add_two(list, n, stencil::REASON, end as usize + 60, stencil::LEGEND);
     add_two(
         list,
@@ -720,7 +744,13 @@ fn draw_legend(list: &mut [usize], n: usize, end: u16) -> usize {
 }
 
 // A page, up to its rows.
-fn draw_page(list: &mut [usize], n: usize, router: Router, row: usize, total: usize) -> usize {
+fn draw_page(
+    list: &mut [usize; 2048],
+    n: usize,
+    router: Router,
+    row: usize,
+    total: usize,
+) -> usize {
     let page = row / ROWS;
     let end = end_of(row, total);
     let a = add_two(list, n, stencil::PAGE, page % MOST * 1584, 0);
@@ -745,7 +775,13 @@ fn draw_page(list: &mut [usize], n: usize, router: Router, row: usize, total: us
 }
 
 // The first row of a page begins it, and ends the one before.
-fn draw_break(list: &mut [usize], n: usize, router: Router, row: usize, total: usize) -> usize {
+fn draw_break(
+    list: &mut [usize; 2048],
+    n: usize,
+    router: Router,
+    row: usize,
+    total: usize,
+) -> usize {
     if !is_first(row, total) {
         return n;
     }
@@ -760,7 +796,7 @@ fn draw_break(list: &mut [usize], n: usize, router: Router, row: usize, total: u
 
 // A row: what came and what became of it, with the router before and after.
 pub fn draw_row(
-    list: &mut [usize],
+    list: &mut [usize; 2048],
     came: Arrival,
     item: Item,
     before: Router,
@@ -772,7 +808,7 @@ pub fn draw_row(
     draw_item(list, next, after, came, item, top_of(row, total))
 }
 
-fn draw_styles(list: &mut [usize], n: usize) -> usize {
+fn draw_styles(list: &mut [usize; 2048], n: usize) -> usize {
     let mut next = n;
     let mut i = 0;
     while i < stencil::STYLE_COUNT {
@@ -783,7 +819,7 @@ fn draw_styles(list: &mut [usize], n: usize) -> usize {
 }
 
 // The beginning of the file.
-pub fn draw_opening(list: &mut [usize], total: usize) -> usize {
+pub fn draw_opening(list: &mut [usize; 2048], total: usize) -> usize {
     let height = height_of(total);
     let a = add_two(list, 0, stencil::OPENING, height, height);
     let b = add_two(list, a, stencil::TITLE, 0, 0);
@@ -792,7 +828,7 @@ pub fn draw_opening(list: &mut [usize], total: usize) -> usize {
 }
 
 // The end of the file.
-pub fn draw_closing(list: &mut [usize]) -> usize {
+pub fn draw_closing(list: &mut [usize; 2048]) -> usize {
     let next = add_two(list, 0, stencil::PAGE_END, 0, 0);
     add_two(list, next, stencil::CLOSING, 0, 0)
 }

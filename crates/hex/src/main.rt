@@ -30,7 +30,7 @@ fn refuse(why: &[u8]) {
 
 // Names the place of a mistake.
 fn refuse_at(text: &[u8], at: usize, why: &[u8]) {
-    let spot = hexes::locate(text, at);
+    let spot = session_hex_reader::locate(text, at);
     let mut line = [0u8; 128];
     let a = text::put_all(&mut line, 0, b"line ");
     let b = text::put_decimal(&mut line, a, spot.line);
@@ -52,7 +52,7 @@ fn send(bytes: &[u8], used: usize) -> bool {
 
 fn show_bytes(text: &[u8]) {
     let mut out = io::large_buffer();
-    let taken = hexes::read(text, &mut out);
+    let taken = session_hex_reader::read(text, &mut out);
     let ends = taken.ends;
     match ends {
         Ends::Odd(at) => refuse_at(text, at, b": a digit without its second one"),
@@ -81,18 +81,18 @@ fn part_end(bytes: &[u8], i: usize) -> usize
 
 fn show_text(bytes: &[u8]) {
     let mut page = io::large_buffer();
-    let mut cursor = hexes::fresh();
+    let mut cursor = session_hex_writer::fresh();
     let mut i = 0;
     while i < bytes.len() {
         let end = part_end(bytes, i);
-        let written = hexes::write(cursor, &bytes[i..end], &mut page);
+        let written = session_hex_writer::write(cursor, &bytes[i..end], &mut page);
         if !send(&page, written.used) {
             return;
         }
         cursor = written.next;
         i = end;
     }
-    let used = hexes::write_end(cursor, &mut page);
+    let used = session_hex_writer::write_end(cursor, &mut page);
     send(&page, used);
 }
 

@@ -1,4 +1,5 @@
 -- The contracts of `read` and `write` leave one answer and one buffer. Assumes nothing.
+-- (`locate`, `fresh` and `write_end` have an equation for a contract, so there this is plain.)
 use Prim.Native.Nat.{ℕ}
 use mathlib.Core.Path.{_≡_, sym, ap, _∙_}
 use mathlib.Core.List.{List}

@@ -1,5 +1,5 @@
--- Each contract leaves one answer possible, with one next state and one content of the lent buffer.
--- `fresh` and `keep` ensure an equation with a definition: two answers are then equal by it.
+-- Each contract of psam_pieces, psam_whole and psam_sources leaves one answer possible, with one next state and one content of the lent buffer.
+-- `fresh`, `judge` and `keep` ensure an equation with a definition: two answers are then equal by it.
 use mathlib.Core.Path.{_≡_, sym, _∙_}
 use mathlib.Core.List.{List}
 use Prim.Native.Nat.{ℕ}

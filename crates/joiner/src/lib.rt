@@ -1,15 +1,10 @@
 // From the PSAM: pieces joined into a message, and the sources that responses go back to.
 //
-// The PSAM sends a message as pieces of at most 252 data bytes, each with two status bytes. The
-// joiner writes each piece's data into the buffer that the caller lends, from where the last one
-// ended. '9601' asks for Get Next; at '9000' the whole is judged, and handed on as a part of the
-// buffer. The same buffer is to be lent until then: the header is read from it.
-//
-// A response's destination is replaced by the source of the last ICC command on its thread, which
-// `keep` holds, and the code '0000' is put at its end. The PSAM counts the code in the announced
-// length although it leaves it out.
-//
-// That every way of cutting a message joins to the same message: proofs/Delivered.antt.
+// The PSAM sends a message as pieces of at most 252 data bytes, each with two status bytes. Here stand
+// the joiner and its answers, what it makes of a piece, of the whole and of a message whose source it
+// keeps (specs), and the laws of it: every way of cutting a message joins to the same message
+// (proofs/Delivered.antt), and a response goes to the source that was kept last on its thread
+// (proofs/ToLast.antt). The code is in psam_pieces, psam_whole and psam_sources.
 use tapa::Refusal;
 
 // How many bytes are joined, and for each thread whether a source is kept, and which.

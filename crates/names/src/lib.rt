@@ -88,17 +88,9 @@ fn write_categories(sheet: &mut [u8]) {
     show_sheet::engrave(
         sheet,
         CATEGORIES,
-        b"security module|till driver|card handler|user interface handler",
-    );
-    show_sheet::engrave(
-        sheet,
-        CATEGORIES + 4,
-        b"merchant application handler|data store handler",
-    );
-    show_sheet::engrave(
-        sheet,
-        CATEGORIES + 6,
-        b"communication handler|event handler|handler of an unknown category",
+        b"security module|till driver|card handler|user interface handler\
+        |merchant application handler|data store handler\
+        |communication handler|event handler|handler of an unknown category",
     );
 }
 
@@ -107,22 +99,10 @@ fn write_devices(sheet: &mut [u8]) {
     show_sheet::engrave(
         sheet,
         DEVICES + 1,
-        b" (Magnetic stripe Reader)| (Processor Card Reader)",
-    );
-    show_sheet::engrave(
-        sheet,
-        DEVICES + 3,
-        b" (Memory Card Reader)| (Contactless Card Reader)",
-    );
-    show_sheet::engrave(
-        sheet,
-        DEVICES + 5,
-        b" (PIN Pad)| (Customer Printer)| (Customer Key Pad)| (Customer Display)",
-    );
-    show_sheet::engrave(
-        sheet,
-        DEVICES + 9,
-        b" (Merchant Key Pad)| (Merchant Printer)| (Merchant Log)| (Merchant Display)",
+        b" (Magnetic stripe Reader)| (Processor Card Reader)\
+        | (Memory Card Reader)| (Contactless Card Reader)\
+        | (PIN Pad)| (Customer Printer)| (Customer Key Pad)| (Customer Display)\
+        | (Merchant Key Pad)| (Merchant Printer)| (Merchant Log)| (Merchant Display)",
     );
 }
 
@@ -132,12 +112,8 @@ fn write_card_types(sheet: &mut [u8]) {
     show_sheet::engrave(
         sheet,
         TYPES + 0x40,
-        b"Read Magnetic Stripe|Write Magnetic Stripe|ICC Command|ICC Power-On|ICC Power-Off",
-    );
-    show_sheet::engrave(
-        sheet,
-        TYPES + 0x45,
-        b"ICC Query|Verify Offline PIN|ICC Command partially encrypted|ICC Command fully encrypted",
+        b"Read Magnetic Stripe|Write Magnetic Stripe|ICC Command|ICC Power-On|ICC Power-Off\
+        |ICC Query|Verify Offline PIN|ICC Command partially encrypted|ICC Command fully encrypted",
     );
     show_sheet::engrave(
         sheet,
@@ -152,17 +128,9 @@ fn write_desk_types(sheet: &mut [u8]) {
     show_sheet::engrave(
         sheet,
         TYPES + 0x60,
-        b"Confirm Amount|Display Message||Print Message|Purge Print Buffer|Get Key Check Value",
-    );
-    show_sheet::engrave(
-        sheet,
-        TYPES + 0x66,
-        b"Verify PSAM Public Key Certificate|Get PIN Pad Public Key Record|Submit Initial Key",
-    );
-    show_sheet::engrave(
-        sheet,
-        TYPES + 0x69,
-        b"Initiate PIN Entry|Get PIN||Terminate PIN Entry",
+        b"Confirm Amount|Display Message||Print Message|Purge Print Buffer|Get Key Check Value\
+        |Verify PSAM Public Key Certificate|Get PIN Pad Public Key Record|Submit Initial Key\
+        |Initiate PIN Entry|Get PIN||Terminate PIN Entry",
     );
     show_sheet::engrave(
         sheet,
@@ -176,12 +144,8 @@ fn write_store_types(sheet: &mut [u8]) {
     show_sheet::engrave(
         sheet,
         TYPES + 0x90,
-        b"Create File|Delete File|Add File Record|Get File Record|Update File Record",
-    );
-    show_sheet::engrave(
-        sheet,
-        TYPES + 0x95,
-        b"Find and Get File Record|Delete File Record|Find and Delete File Record|Clear File",
+        b"Create File|Delete File|Add File Record|Get File Record|Update File Record\
+        |Find and Get File Record|Delete File Record|Find and Delete File Record|Clear File",
     );
 }
 
@@ -204,24 +168,12 @@ fn write_codes(sheet: &mut [u8]) {
     show_sheet::engrave(
         sheet,
         CODES,
-        b"Successful|Invalid Source Address|Invalid Destination Address|Handler Error|Handler busy",
+        b"Successful|Invalid Source Address|Invalid Destination Address|Handler Error|Handler busy\
+        |Insufficient resources|Handler must be opened|Unsupported operation\
+        |Invalid record pointer|Invalid File ID|Record too large|Search key too large\
+        |File seek error|Search key already existing|No Events in Queue|No Matching Events in Queue\
+        |a code of the device",
     );
-    show_sheet::engrave(
-        sheet,
-        CODES + 5,
-        b"Insufficient resources|Handler must be opened|Unsupported operation",
-    );
-    show_sheet::engrave(
-        sheet,
-        CODES + 8,
-        b"Invalid record pointer|Invalid File ID|Record too large|Search key too large",
-    );
-    show_sheet::engrave(
-        sheet,
-        CODES + 12,
-        b"File seek error|Search key already existing|No Events in Queue|No Matching Events in Queue",
-    );
-    show_sheet::engrave(sheet, CODES + 16, b"a code of the device");
 }
 
 // What the support book calls each refusal.
@@ -229,45 +181,14 @@ fn write_refusals(sheet: &mut [u8]) {
     show_sheet::engrave(
         sheet,
         REFUSALS + 1,
-        b"the message is too short|it announces more than 1,024 bytes|it has fewer bytes than it announces",
-    );
-    show_sheet::engrave(
-        sheet,
-        REFUSALS + 4,
-        b"the address is not in the table|the thread is above 7|the response has no code",
-    );
-    show_sheet::engrave(
-        sheet,
-        REFUSALS + 7,
-        b"a stray response|the response is not for its asker|the lent buffer is too small",
-    );
-    show_sheet::engrave(
-        sheet,
-        REFUSALS + 10,
-        b"the event cannot be taken|no row, or more than 16, or one that no table may have",
-    );
-}
-
-fn write_more_refusals(sheet: &mut [u8]) {
-    show_sheet::engrave(
-        sheet,
-        REFUSALS + 12,
-        b"one address stands in two rows|more than 4 security modules and till drivers",
-    );
-    show_sheet::engrave(
-        sheet,
-        REFUSALS + 14,
-        b"nothing to give up|the message is not for this part|it stands in an open question",
-    );
-    show_sheet::engrave(
-        sheet,
-        REFUSALS + 17,
-        b"no source was kept|the status cannot be used|it has more bytes than it announces",
-    );
-    show_sheet::engrave(
-        sheet,
-        REFUSALS + 20,
-        b"it still holds a question of its own",
+        b"the message is too short|it announces more than 1,024 bytes|it has fewer bytes than it announces\
+        |the address is not in the table|the thread is above 7|the response has no code\
+        |a stray response|the response is not for its asker|the lent buffer is too small\
+        |the event cannot be taken|no row, or more than 16, or one that no table may have\
+        |one address stands in two rows|more than 4 security modules and till drivers\
+        |nothing to give up|the message is not for this part|it stands in an open question\
+        |no source was kept|the status cannot be used|it has more bytes than it announces\
+        |it still holds a question of its own",
     );
 }
 
@@ -285,5 +206,4 @@ pub fn write_names(sheet: &mut [u8]) {
     write_types(sheet);
     write_codes(sheet);
     write_refusals(sheet);
-    write_more_refusals(sheet);
 }

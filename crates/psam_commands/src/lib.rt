@@ -1,4 +1,11 @@
-// TODO: purpose of psam_commands.
+// The cutter: a response handed to the PSAM, command by command.
+//
+// `start_check` says whether a message is a response that can be cut, `part_to_cut` is the data to
+// cut, and `cut_next` writes the command at a place into a lent buffer and answers the place after
+// it: cutter `HandsOut`. Nothing is copied but into that buffer.
+//
+// `Cutter` holds the data and the place for callers that like to have both in one value. Its
+// functions are thin: they take it apart and call the ones above.
 use cutter::Begun;
 use cutter::Cut;
 use cutter::Cutter;
@@ -13,6 +20,8 @@ ghost use Prim.Native.Nat.{_+_, _≤_};
 ghost use lib.ListN.{length};
 ghost use Rattle.lists.specs.Lists.{onto};
 ghost use Rattle.cutter.specs.Cutting.{startOf, threadOf, PartToCut, commandHead, commandOf, cutterAt, HandsOut, Steps, Begins, Firsts};
+
+// ---- the start
 
 // Whether these bytes are a response that can be cut.
 pub fn start_check(message: &[u8]) -> Start
@@ -55,6 +64,9 @@ pub fn part_to_cut(message: &[u8]) -> &[u8]
     }
 }
 
+// ---- one command
+
+// The five bytes before a command's data.
 fn put_head(buffer: &mut [u8], thread: u8, p2: u8, count: u8)
     requires { ⌜ 5 ≤ length (now buffer) ⌝ }
     ensures { λ _. ⌜ now (buffer .exit) ≡ onto (commandHead thread p2 count) (now (buffer .entry)) ⌝ }
@@ -66,6 +78,7 @@ fn put_head(buffer: &mut [u8], thread: u8, p2: u8, count: u8)
     buffer[4] = count;
 }
 
+// Writes a whole command at the start of a buffer.
 fn put_command(buffer: &mut [u8], thread: u8, p2: u8, piece: &[u8])
     requires { ⌜ 6 + length (now piece) ≤ length (now buffer) ⌝ }
     requires { ⌜ length (now piece) ≤ 248 ⌝ }
@@ -107,6 +120,8 @@ pub fn cut_next(part: &[u8], thread: u8, at: usize, buffer: &mut [u8]) -> Handed
         next: part.len(),
     }
 }
+
+// ---- the data and the place in one value
 
 // A cutter at the first place of some data.
 fn over<'a>(part: &'a [u8], thread: u8) -> Cutter<'a>

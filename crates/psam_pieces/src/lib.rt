@@ -1,4 +1,11 @@
-// TODO: purpose of psam_pieces.
+// The joiner takes the pieces of a message from the PSAM.
+//
+// Each piece's data is written into the buffer that the caller lends, from where the last one ended.
+// '9601' asks for Get Next; at '9000' the whole is judged (psam_whole), and handed on as a part of the
+// buffer: joiner `Joins`. The same buffer is to be lent until then: the header is read from it.
+//
+// Of a response that is handed on, the destination becomes the kept source, and the code '0000', which
+// the PSAM leaves out, is put at its end.
 use joiner::Answer;
 use joiner::Joined;
 use joiner::Joiner;
@@ -12,21 +19,12 @@ ghost use lib.ListN.{length, take};
 ghost use Rattle.lists.specs.Lists.{onto};
 ghost use Rattle.joiner.specs.Joining.{freshJoiner, counting, takingOf, joinedWith, wholeOf, wholeAnswer, wholeBytes, completed, Joins, PartFor, Asks};
 
+// ---- one piece
+
 // The status of a piece that more follow, and of the last.
 const MORE_DATA: u16 = 0x9601;
 
 const ALL_SENT: u16 = 0x9000;
-
-// A joiner that holds nothing.
-pub fn fresh() -> Joiner
-    ensures { λ r. ⌜ r ≡ freshJoiner ⌝ }
-{
-    Joiner {
-        joined: 0,
-        sources: [0u16; 8],
-        kept: [false; 8],
-    }
-}
 
 // What a piece is after so many joined bytes.
 fn check_piece(joined: usize, piece: &[u8]) -> Taking
@@ -66,6 +64,8 @@ fn add_piece(joined: usize, piece: &[u8], buffer: &mut [u8]) -> usize
     joined + n
 }
 
+// ---- the whole
+
 // Puts a destination and the code '0000' to the m joined bytes of a response.
 fn complete(m: usize, source: u16, buffer: &mut [u8])
     requires { ⌜ 2 ≤ m ⌝ }
@@ -76,18 +76,6 @@ fn complete(m: usize, source: u16, buffer: &mut [u8])
     buffer[1] = (source % 256) as u8;
     buffer[m] = 0x00;
     buffer[m + 1] = 0x00;
-}
-
-fn counting(joiner: Joiner, joined: usize) -> Joiner
-    ensures { λ r. ⌜ r ≡ counting joiner joined ⌝ }
-{
-    let sources = joiner.sources;
-    let kept = joiner.kept;
-    Joiner {
-        joined,
-        sources,
-        kept,
-    }
 }
 
 // Judges the first m bytes of the buffer, and puts to a response what it lacks.
@@ -103,6 +91,32 @@ fn finish(joiner: Joiner, m: usize, buffer: &mut [u8]) -> Answer
             complete(m, source, buffer);
             Answer::Message(m + 2)
         }
+    }
+}
+
+// ---- the joiner
+
+// A joiner that holds nothing.
+pub fn fresh() -> Joiner
+    ensures { λ r. ⌜ r ≡ freshJoiner ⌝ }
+{
+    Joiner {
+        joined: 0,
+        sources: [0u16; 8],
+        kept: [false; 8],
+    }
+}
+
+// The joiner with another joined count.
+fn counting(joiner: Joiner, joined: usize) -> Joiner
+    ensures { λ r. ⌜ r ≡ counting joiner joined ⌝ }
+{
+    let sources = joiner.sources;
+    let kept = joiner.kept;
+    Joiner {
+        joined,
+        sources,
+        kept,
     }
 }
 
@@ -138,6 +152,8 @@ pub fn join(joiner: Joiner, piece: &[u8], buffer: &mut [u8]) -> Joined
         }
     }
 }
+
+// ---- what is handed on, and asked for
 
 // The message that an answer hands on, as a part of the buffer; the empty part for any other.
 pub fn joined_part(answer: Answer, buffer: &[u8]) -> &[u8]

@@ -1,4 +1,7 @@
-// TODO: purpose of psam_sources.
+// The joiner keeps the sources that responses from the PSAM go back to.
+//
+// A '42' command (ICC Command) says who asks on its thread. Its source is kept until the next one on
+// that thread: joiner `keptOf`. psam_whole reads it when the PSAM's response is joined.
 use joiner::Joiner;
 use joiner::Keeping;
 use joiner::Kept;
@@ -7,6 +10,23 @@ use tapa::Refusal;
 ghost use mathlib.Core.Path.{_≡_};
 ghost use Prim.Native.Nat.{_≤_};
 ghost use Rattle.joiner.specs.Joining.{withSource, keptOf};
+
+// The joiner with a source in a thread's place.
+fn with_source(joiner: Joiner, thread: usize, source: u16) -> Joiner
+    requires { ⌜ thread ≤ 7 ⌝ }
+    ensures { λ r. ⌜ r ≡ withSource joiner thread source ⌝ }
+{
+    let joined = joiner.joined;
+    let mut sources = joiner.sources;
+    let mut kept = joiner.kept;
+    sources[thread] = source;
+    kept[thread] = true;
+    Joiner {
+        joined,
+        sources,
+        kept,
+    }
+}
 
 // Keeps a command's source for its thread.
 pub fn keep(joiner: Joiner, message: &[u8]) -> Kept
@@ -35,21 +55,5 @@ pub fn keep(joiner: Joiner, message: &[u8]) -> Kept
                 next: with_source(joiner, head.thread as usize, head.source),
             }
         }
-    }
-}
-
-fn with_source(joiner: Joiner, thread: usize, source: u16) -> Joiner
-    requires { ⌜ thread ≤ 7 ⌝ }
-    ensures { λ r. ⌜ r ≡ withSource joiner thread source ⌝ }
-{
-    let joined = joiner.joined;
-    let mut sources = joiner.sources;
-    let mut kept = joiner.kept;
-    sources[thread] = source;
-    kept[thread] = true;
-    Joiner {
-        joined,
-        sources,
-        kept,
     }
 }

@@ -1,9 +1,13 @@
-// TODO: purpose of psam_whole.
+// The joined bytes judged, once the PSAM's last piece is there ('9000').
+//
+// They are a message as it stands, a response with the address that it goes to, or refused: joiner
+// `wholeOf`. A response goes to the source that the joiner keeps for its thread. The PSAM counts a
+// response's code in the announced length although it leaves it out.
 use joiner::Joiner;
 use joiner::Whole;
 use tapa::Refusal;
 ghost use mathlib.Core.Path.{_≡_};
-ghost use Prim.Native.Nat.{_+_, _-_, _≤_};
+ghost use Prim.Native.Nat.{_≤_};
 ghost use lib.ListN.{length};
 ghost use Rattle.joiner.specs.Joining.{dueFor, wholeOf};
 
@@ -19,7 +23,7 @@ fn due_for(message: &[u8]) -> usize
     m - 8 + 2
 }
 
-// What the joined bytes are, once the last piece is there.
+// What the joined bytes are.
 pub fn judge(joiner: Joiner, message: &[u8]) -> Whole
     ensures { λ r. ⌜ r ≡ wholeOf joiner (now (message .entry)) ⌝ }
 {

@@ -123,27 +123,11 @@ fn write_arrivals(sheet: &mut [u8]) {
     show_sheet::engrave(
         sheet,
         ENCIPHERED,
-        b" (enciphered)|row #: $ @$, open$|row #: $ @$, closed$|more rows follow: a table has at most 16",
-    );
-    show_sheet::engrave(
-        sheet,
-        ASKS,
-        b"thread #: the $ @$ asks the $ @$: $ ('^'), |thread #: the $ @$ answers the $ @$: code @, $; ",
-    );
-    show_sheet::engrave(
-        sheet,
-        ANSWERS_BARE,
-        b"thread #: the $ @$ answers the $ @$ without a code; |thread #: the $ @$ reports to the $ @$: $ ('^'), ",
-    );
-    show_sheet::engrave(
-        sheet,
-        GIVES_UP,
-        b"thread #: the question to the $ @$ is to be given up|the $ @$ is said to be replaced",
-    );
-    show_sheet::engrave(
-        sheet,
-        UNREAD,
-        b"too few bytes for a message: #|no data|1 byte of data|# bytes of data",
+        b" (enciphered)|row #: $ @$, open$|row #: $ @$, closed$|more rows follow: a table has at most 16\
+        |thread #: the $ @$ asks the $ @$: $ ('^'), |thread #: the $ @$ answers the $ @$: code @, $; \
+        |thread #: the $ @$ answers the $ @$ without a code; |thread #: the $ @$ reports to the $ @$: $ ('^'), \
+        |thread #: the question to the $ @$ is to be given up|the $ @$ is said to be replaced\
+        |too few bytes for a message: #|no data|1 byte of data|# bytes of data",
     );
 }
 
@@ -152,24 +136,12 @@ fn write_outcomes(sheet: &mut [u8]) {
     show_sheet::engrave(
         sheet,
         PASSED,
-        b"passed on; @ now has to answer|passed on; @ has its answer from @",
+        b"passed on; @ now has to answer|passed on; @ has its answer from @\
+        |it comes late, and goes to nobody; @ owes it no more|it goes to the event queue; no answer is due\
+        |turned back, and not passed on; @ is told code @, $|given up; @ is told code @, $; @ now owes a late reply\
+        |@ is closed now, and owes no late reply any more|refused, and nothing changed: $\
+        |@ is open now|@ is closed now",
     );
-    show_sheet::engrave(
-        sheet,
-        SWALLOWED,
-        b"it comes late, and goes to nobody; @ owes it no more|it goes to the event queue; no answer is due",
-    );
-    show_sheet::engrave(
-        sheet,
-        TURNED,
-        b"turned back, and not passed on; @ is told code @, $|given up; @ is told code @, $; @ now owes a late reply",
-    );
-    show_sheet::engrave(
-        sheet,
-        RESET,
-        b"@ is closed now, and owes no late reply any more|refused, and nothing changed: $",
-    );
-    show_sheet::engrave(sheet, NOW_OPEN, b"@ is open now|@ is closed now");
 }
 
 // Why a command was turned back.
@@ -177,22 +149,9 @@ fn write_reasons(sheet: &mut [u8]) {
     show_sheet::engrave(
         sheet,
         NO_SUCH,
-        b"why: the table has no handler @|why: the $ @ does not know this type|why: @ is closed",
-    );
-    show_sheet::engrave(
-        sheet,
-        NOT_ITS_TURN,
-        b"why: the thread is that of @, and @ has no question there to answer",
-    );
-    show_sheet::engrave(
-        sheet,
-        IN_THREAD,
-        b"why: @ has its part in the open questions of this thread already",
-    );
-    show_sheet::engrave(
-        sheet,
-        HAS_TO_ANSWER,
-        b"why: @ has to answer @ on thread # first|why: @ still owes @ a late reply, on thread #",
+        b"why: the table has no handler @|why: the $ @ does not know this type|why: @ is closed\
+        |why: the thread is that of @, and @ has no question there to answer\
+        |why: @ has its part in the open questions of this thread already",
     );
 }
 
@@ -200,23 +159,12 @@ fn write_reasons(sheet: &mut [u8]) {
 fn write_causes(sheet: &mut [u8]) {
     show_sheet::engrave(
         sheet,
-        ASKS_ITSELF,
-        b"why: @ asks itself|why: only a till driver can begin a thread|why: @ itself still waits, for @",
-    );
-    show_sheet::engrave(
-        sheet,
-        ASKED_AS,
-        b"why: on this thread @ was asked, and not @|why: nobody waits for @ on this thread",
-    );
-    show_sheet::engrave(
-        sheet,
-        ASKED_BY,
-        b"why: it was asked by @|why: @ has to answer @ on thread #|why: @ waits for @ on thread #",
-    );
-    show_sheet::engrave(
-        sheet,
-        TORN,
-        b"thread #: from the $ @$ to the $ @$: bytes of data announced: #, came: #",
+        HAS_TO_ANSWER,
+        b"why: @ has to answer @ on thread # first|why: @ still owes @ a late reply, on thread #\
+        |why: @ asks itself|why: only a till driver can begin a thread|why: @ itself still waits, for @\
+        |why: on this thread @ was asked, and not @|why: nobody waits for @ on this thread\
+        |why: it was asked by @|why: @ has to answer @ on thread #|why: @ waits for @ on thread #\
+        |thread #: from the $ @$ to the $ @$: bytes of data announced: #, came: #",
     );
 }
 
@@ -225,22 +173,10 @@ fn write_standings(sheet: &mut [u8]) {
     show_sheet::engrave(
         sheet,
         OPEN_FIRST,
-        b"open on thread #: $ @$ asks @$|, @$ asks @$|open on thread #: nothing",
-    );
-    show_sheet::engrave(
-        sheet,
-        OWED_FIRST,
-        b"owed on thread #: a late reply of @$ to @$|, of @$ to @$",
-    );
-    show_sheet::engrave(
-        sheet,
-        SEE_CODE,
-        b"see docs/book/code-@.md|see docs/book/refusal-##.md",
-    );
-    show_sheet::engrave(
-        sheet,
-        SEE_BROKEN,
-        b"see docs/book/line-broken.md|see docs/book/line-too-long.md",
+        b"open on thread #: $ @$ asks @$|, @$ asks @$|open on thread #: nothing\
+        |owed on thread #: a late reply of @$ to @$|, of @$ to @$\
+        |see docs/book/code-@.md|see docs/book/refusal-##.md\
+        |see docs/book/line-broken.md|see docs/book/line-too-long.md",
     );
 }
 
@@ -249,22 +185,10 @@ fn write_ends(sheet: &mut [u8]) {
     show_sheet::engrave(
         sheet,
         BROKEN,
-        b"field # of the file cannot be read; nothing from there on was done",
-    );
-    show_sheet::engrave(
-        sheet,
-        BAD_TABLE,
-        b"the table of handlers is refused, so no step was done: $",
-    );
-    show_sheet::engrave(
-        sheet,
-        TOO_LONG,
-        b"the file has more than 65,536 bytes; nothing of it was done",
-    );
-    show_sheet::engrave(
-        sheet,
-        ALL_PASSED,
-        b"questions that were passed on: #|of these answered: #|of these given up: #|of these still open: #|late replies still owed: #",
+        b"field # of the file cannot be read; nothing from there on was done\
+        |the table of handlers is refused, so no step was done: $\
+        |the file has more than 65,536 bytes; nothing of it was done\
+        |questions that were passed on: #|of these answered: #|of these given up: #|of these still open: #|late replies still owed: #",
     );
 }
 

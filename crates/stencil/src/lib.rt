@@ -117,22 +117,14 @@ fn write_frame(sheet: &mut [u8]) {
     show_sheet::engrave(
         sheet,
         RAW,
-        b"$|<svg xmlns=\"http://www.w3.org/2000/svg\" viewBox=\"0 0 1120 #\" width=\"1120\" height=\"#\" font-family=\"sans-serif\">",
-    );
-    show_sheet::engrave(
-        sheet,
-        TITLE,
-        b"<title>A session of the kiosk</title><style>|#mm}}</style>",
+        b"$|<svg xmlns=\"http://www.w3.org/2000/svg\" viewBox=\"0 0 1120 #\" width=\"1120\" height=\"#\" font-family=\"sans-serif\">\
+        |<title>A session of the kiosk</title><style>|#mm}}</style>",
     );
     show_sheet::engrave(
         sheet,
         PAGE,
-        b"<g transform=\"translate(0 #)\"><rect class=\"bg\" width=\"1120\" height=\"1584\"/>",
-    );
-    show_sheet::engrave(
-        sheet,
-        PAGE_NUMBER,
-        b"<text x=\"40\" y=\"44\">page # of #</text>|</g>|</svg>",
+        b"<g transform=\"translate(0 #)\"><rect class=\"bg\" width=\"1120\" height=\"1584\"/>\
+        |<text x=\"40\" y=\"44\">page # of #</text>|</g>|</svg>",
     );
 }
 
@@ -141,40 +133,13 @@ fn write_styles(sheet: &mut [u8]) {
     show_sheet::engrave(
         sheet,
         STYLES,
-        b"text{font-size:12px}.s{font-size:10.5px;fill:dimgray}.g{fill:gray}.k{text-anchor:end}",
-    );
-    show_sheet::engrave(
-        sheet,
-        STYLES + 1,
-        b".m{text-anchor:middle;font-size:11px;paint-order:stroke;stroke:white;stroke-width:4px}",
-    );
-    show_sheet::engrave(
-        sheet,
-        STYLES + 2,
-        b".n{text-anchor:middle;font-size:10px}path,circle,rect{fill:none;stroke:black}.bg{fill:white;stroke:none}",
-    );
-    show_sheet::engrave(
-        sheet,
-        STYLES + 3,
-        b".lane{stroke:darkgray}.hub{stroke:darkgray;stroke-width:5}.shut{stroke:gainsboro;stroke-width:11}",
-    );
-}
-
-fn write_more_styles(sheet: &mut [u8]) {
-    show_sheet::engrave(
-        sheet,
-        STYLES + 4,
-        b".w{stroke-width:2}.o{stroke-width:2;stroke-dasharray:2 4}.a{stroke-width:2}",
-    );
-    show_sheet::engrave(
-        sheet,
-        STYLES + 5,
-        b".r{stroke-width:2;stroke-dasharray:8 3}.c{fill:white;stroke-width:2}.x{stroke-width:3}",
-    );
-    show_sheet::engrave(
-        sheet,
-        STYLES + 6,
-        b".no{stroke-width:2}@page{size:A4;margin:0}",
+        b"text{font-size:12px}.s{font-size:10.5px;fill:dimgray}.g{fill:gray}.k{text-anchor:end}\
+        |.m{text-anchor:middle;font-size:11px;paint-order:stroke;stroke:white;stroke-width:4px}\
+        |.n{text-anchor:middle;font-size:10px}path,circle,rect{fill:none;stroke:black}.bg{fill:white;stroke:none}\
+        |.lane{stroke:darkgray}.hub{stroke:darkgray;stroke-width:5}.shut{stroke:gainsboro;stroke-width:11}\
+        |.w{stroke-width:2}.o{stroke-width:2;stroke-dasharray:2 4}.a{stroke-width:2}\
+        |.r{stroke-width:2;stroke-dasharray:8 3}.c{fill:white;stroke-width:2}.x{stroke-width:3}\
+        |.no{stroke-width:2}@page{size:A4;margin:0}",
     );
 }
 
@@ -183,24 +148,12 @@ fn write_colours(sheet: &mut [u8]) {
     show_sheet::engrave(
         sheet,
         STYLES + 7,
-        b".t0{stroke:black}.f0{fill:black;stroke:none}|.t1{stroke:rgb(0,114,178)}.f1{fill:rgb(0,114,178);stroke:none}",
+        b".t0{stroke:black}.f0{fill:black;stroke:none}|.t1{stroke:rgb(0,114,178)}.f1{fill:rgb(0,114,178);stroke:none}\
+        |.t2{stroke:rgb(213,94,0)}.f2{fill:rgb(213,94,0);stroke:none}|.t3{stroke:rgb(0,138,100)}.f3{fill:rgb(0,138,100);stroke:none}\
+        |.t4{stroke:rgb(184,71,138)}.f4{fill:rgb(184,71,138);stroke:none}|.t5{stroke:rgb(200,130,0)}.f5{fill:rgb(200,130,0);stroke:none}\
+        |.t6{stroke:rgb(40,150,220)}.f6{fill:rgb(40,150,220);stroke:none}|.t7{stroke:rgb(130,80,60)}.f7{fill:rgb(130,80,60);stroke:none}\
+        |@media print{svg{width:210mm;height:",
     );
-    show_sheet::engrave(
-        sheet,
-        STYLES + 9,
-        b".t2{stroke:rgb(213,94,0)}.f2{fill:rgb(213,94,0);stroke:none}|.t3{stroke:rgb(0,138,100)}.f3{fill:rgb(0,138,100);stroke:none}",
-    );
-    show_sheet::engrave(
-        sheet,
-        STYLES + 11,
-        b".t4{stroke:rgb(184,71,138)}.f4{fill:rgb(184,71,138);stroke:none}|.t5{stroke:rgb(200,130,0)}.f5{fill:rgb(200,130,0);stroke:none}",
-    );
-    show_sheet::engrave(
-        sheet,
-        STYLES + 13,
-        b".t6{stroke:rgb(40,150,220)}.f6{fill:rgb(40,150,220);stroke:none}|.t7{stroke:rgb(130,80,60)}.f7{fill:rgb(130,80,60);stroke:none}",
-    );
-    show_sheet::engrave(sheet, STYLES + 15, b"@media print{svg{width:210mm;height:");
 }
 
 // The columns, and what stands in them.
@@ -208,22 +161,10 @@ fn write_columns(sheet: &mut [u8]) {
     show_sheet::engrave(
         sheet,
         ROUTER,
-        b"<text transform=\"translate(# 230) rotate(-60)\">router</text>",
-    );
-    show_sheet::engrave(
-        sheet,
-        COLUMN,
-        b"<text transform=\"translate(# 230) rotate(-60)\">@ $</text>|<text class=\"g\" transform=\"translate(# 230) rotate(-60)\">@ $, closed</text>",
-    );
-    show_sheet::engrave(
-        sheet,
-        LANE,
-        b"<path class=\"lane\" d=\"M# 238V#\"/>|<path class=\"hub\" d=\"M# 238V#\"/>",
-    );
-    show_sheet::engrave(
-        sheet,
-        SHUT,
-        b"<path class=\"shut\" d=\"M# #v30\"/>|<path class=\"w t#\" d=\"M# #v30\"/>|<path class=\"o t#\" d=\"M# #v30\"/>",
+        b"<text transform=\"translate(# 230) rotate(-60)\">router</text>\
+        |<text transform=\"translate(# 230) rotate(-60)\">@ $</text>|<text class=\"g\" transform=\"translate(# 230) rotate(-60)\">@ $, closed</text>\
+        |<path class=\"lane\" d=\"M# 238V#\"/>|<path class=\"hub\" d=\"M# 238V#\"/>\
+        |<path class=\"shut\" d=\"M# #v30\"/>|<path class=\"w t#\" d=\"M# #v30\"/>|<path class=\"o t#\" d=\"M# #v30\"/>",
     );
 }
 
@@ -232,22 +173,10 @@ fn write_arrows(sheet: &mut [u8]) {
     show_sheet::engrave(
         sheet,
         QUESTION,
-        b"<path class=\"a t#\" d=\"M# #H#\"/>|<path class=\"r t#\" d=\"M# #H#\"/>",
-    );
-    show_sheet::engrave(
-        sheet,
-        RIGHT_HEAD,
-        b"<path class=\"f#\" d=\"M# #l-11-5v10z\"/>|<path class=\"f#\" d=\"M# #l11-5v10z\"/>",
-    );
-    show_sheet::engrave(
-        sheet,
-        TYPE_LABEL,
-        b"<text class=\"m\" x=\"#\" y=\"#\">^</text>|<text class=\"m\" x=\"#\" y=\"#\">@</text>",
-    );
-    show_sheet::engrave(
-        sheet,
-        THREAD,
-        b"<circle class=\"c t#\" cx=\"#\" cy=\"#\" r=\"7\"/>|<text class=\"n\" x=\"#\" y=\"#\">#</text>",
+        b"<path class=\"a t#\" d=\"M# #H#\"/>|<path class=\"r t#\" d=\"M# #H#\"/>\
+        |<path class=\"f#\" d=\"M# #l-11-5v10z\"/>|<path class=\"f#\" d=\"M# #l11-5v10z\"/>\
+        |<text class=\"m\" x=\"#\" y=\"#\">^</text>|<text class=\"m\" x=\"#\" y=\"#\">@</text>\
+        |<circle class=\"c t#\" cx=\"#\" cy=\"#\" r=\"7\"/>|<text class=\"n\" x=\"#\" y=\"#\">#</text>",
     );
 }
 
@@ -256,17 +185,9 @@ fn write_marks(sheet: &mut [u8]) {
     show_sheet::engrave(
         sheet,
         CROSS,
-        b"<path class=\"x\" d=\"M# #l12 12m0-12l-12 12\"/>|<path class=\"f#\" d=\"M# #h10v12h-10z\"/>",
-    );
-    show_sheet::engrave(
-        sheet,
-        RING,
-        b"<circle class=\"c\" cx=\"#\" cy=\"#\" r=\"9\"/>|<text class=\"k\" x=\"68\" y=\"#\">#</text>",
-    );
-    show_sheet::engrave(
-        sheet,
-        MARGIN_MARK,
-        b"<rect class=\"no\" x=\"76\" y=\"#\" width=\"76\" height=\"15\"/>|<text x=\"82\" y=\"#\">refused #</text>",
+        b"<path class=\"x\" d=\"M# #l12 12m0-12l-12 12\"/>|<path class=\"f#\" d=\"M# #h10v12h-10z\"/>\
+        |<circle class=\"c\" cx=\"#\" cy=\"#\" r=\"9\"/>|<text class=\"k\" x=\"68\" y=\"#\">#</text>\
+        |<rect class=\"no\" x=\"76\" y=\"#\" width=\"76\" height=\"15\"/>|<text x=\"82\" y=\"#\">refused #</text>",
     );
 }
 
@@ -275,27 +196,11 @@ fn write_words(sheet: &mut [u8]) {
     show_sheet::engrave(
         sheet,
         PASSED,
-        b"<text x=\"78\" y=\"#\">passed: @ asks @</text>|<text x=\"78\" y=\"#\">answered: @ to @</text>",
-    );
-    show_sheet::engrave(
-        sheet,
-        TURNED,
-        b"<text x=\"78\" y=\"#\">turned back: @ to @, '^'</text>|<text x=\"78\" y=\"#\">given up: question of @ to @</text>",
-    );
-    show_sheet::engrave(
-        sheet,
-        SWALLOWED,
-        b"<text x=\"78\" y=\"#\">swallowed: late reply of @</text>|<text x=\"78\" y=\"#\">event: @ to @</text>",
-    );
-    show_sheet::engrave(
-        sheet,
-        RESET,
-        b"<text x=\"78\" y=\"#\">reset: @ was replaced</text>|<text class=\"s\" x=\"78\" y=\"#\">'^' $</text>",
-    );
-    show_sheet::engrave(
-        sheet,
-        WITH_CODE,
-        b"<text class=\"s\" x=\"78\" y=\"#\">code @, $</text>|<text class=\"s\" x=\"78\" y=\"#\">$</text>",
+        b"<text x=\"78\" y=\"#\">passed: @ asks @</text>|<text x=\"78\" y=\"#\">answered: @ to @</text>\
+        |<text x=\"78\" y=\"#\">turned back: @ to @, '^'</text>|<text x=\"78\" y=\"#\">given up: question of @ to @</text>\
+        |<text x=\"78\" y=\"#\">swallowed: late reply of @</text>|<text x=\"78\" y=\"#\">event: @ to @</text>\
+        |<text x=\"78\" y=\"#\">reset: @ was replaced</text>|<text class=\"s\" x=\"78\" y=\"#\">'^' $</text>\
+        |<text class=\"s\" x=\"78\" y=\"#\">code @, $</text>|<text class=\"s\" x=\"78\" y=\"#\">$</text>",
     );
 }
 
@@ -304,39 +209,18 @@ fn write_ends(sheet: &mut [u8]) {
     show_sheet::engrave(
         sheet,
         TOTALS,
-        b"<text x=\"78\" y=\"#\">end: # passed on, # answered, # given up,</text>",
-    );
-    show_sheet::engrave(
-        sheet,
-        MORE_TOTALS,
-        b"<text x=\"78\" y=\"#\"># still open, # late replies still owed</text>",
-    );
-    show_sheet::engrave(
-        sheet,
-        BROKEN,
-        b"<text x=\"78\" y=\"#\">broken: field # of the file cannot be read</text>|<text x=\"78\" y=\"#\">table refused #: $</text>",
-    );
-    show_sheet::engrave(
-        sheet,
-        TOO_LONG,
-        b"<text x=\"78\" y=\"#\">too long: the file has more than 65,536 bytes</text>",
-    );
-    show_sheet::engrave(
-        sheet,
-        LEGEND,
-        b"full arrow: question; dashed arrow: answer; circle: thread; bar in a column: has to answer; dotted bar: owes a late reply;",
-    );
-    show_sheet::engrave(
-        sheet,
-        MORE_LEGEND,
-        b"cross: turned back or given up; filled square: a late reply ends; ring: replaced; frame: refused; grey: closed",
+        b"<text x=\"78\" y=\"#\">end: # passed on, # answered, # given up,</text>\
+        |<text x=\"78\" y=\"#\">broken: field # of the file cannot be read</text>|<text x=\"78\" y=\"#\">table refused #: $</text>\
+        |<text x=\"78\" y=\"#\">too long: the file has more than 65,536 bytes</text>\
+        |full arrow: question; dashed arrow: answer; circle: thread; bar in a column: has to answer; dotted bar: owes a late reply;\
+        |cross: turned back or given up; filled square: a late reply ends; ring: replaced; frame: refused; grey: closed\
+        |<text x=\"78\" y=\"#\"># still open, # late replies still owed</text>",
     );
 }
 
 fn write_file(sheet: &mut [u8]) {
     write_frame(sheet);
     write_styles(sheet);
-    write_more_styles(sheet);
     write_colours(sheet);
 }
 

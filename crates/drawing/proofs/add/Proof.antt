@@ -1,13 +1,11 @@
 -- `drawing::add` is safe and ends: a form has 8 numbers. Assumes nothing.
 use Prim.Native.Nat.{_≤_, _-_}
-use mathlib.Core.Path.{_≡_}
-use lib.ListN.{length}
 use borrow.Author.Needs.{needs}
 use Rattle.drawing.proofs.add.Statement.{statement}
 use Rattle.drawing.proofs.add.Tie as tie
 
 abbrev Inv-loop : tie.InvT-loop
-Inv-loop list₀ n form at i₀ list i = (i ≤ 8) × (length list ≡ length list₀)
+Inv-loop list₀ n form at i₀ list i = i ≤ 8
 
 abbrev μ-loop : tie.MeasureT-loop
 μ-loop list₀ n form at i₀ list i = 8 - i
@@ -18,9 +16,6 @@ add-spec =
     (tie.spec
     Inv-loop
     μ-loop
-    (λ c. search needs)
-    (λ c. search needs)
-    (λ c. search needs)
     (λ c. search needs)
     (λ c. search needs)
     (λ c. search needs)

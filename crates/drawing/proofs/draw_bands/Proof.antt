@@ -1,13 +1,11 @@
 -- `drawing::draw_bands` is safe and ends: a table has 16 rows at most. Assumes nothing.
 use Prim.Native.Nat.{_≤_, _-_}
-use mathlib.Core.Path.{_≡_}
-use lib.ListN.{length}
 use borrow.Author.Needs.{needs}
 use Rattle.drawing.proofs.draw_bands.Statement.{statement}
 use Rattle.drawing.proofs.draw_bands.Tie as tie
 
 abbrev Inv-loop : tie.InvT-loop
-Inv-loop list₀ n router y cells next₀ i₀ list next i = (i ≤ 16) × (length list ≡ length list₀)
+Inv-loop list₀ n router y cells next₀ i₀ list next i = i ≤ 16
 
 abbrev μ-loop : tie.MeasureT-loop
 μ-loop list₀ n router y cells next₀ i₀ list next i = 16 - i
@@ -23,7 +21,6 @@ draw-bands-spec =
     (λ c. search needs)
     (λ c. search needs)
     (λ c κs. search needs)
-    (λ c. search needs)
     (λ c. search needs)
     (λ c. search needs)
     (λ c. search needs)

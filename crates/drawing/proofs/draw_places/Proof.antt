@@ -1,13 +1,11 @@
 -- `drawing::draw_places` is safe and ends: a list has 48 places. Assumes nothing.
 use Prim.Native.Nat.{_≤_, _-_}
-use mathlib.Core.Path.{_≡_}
-use lib.ListN.{length}
 use borrow.Author.Needs.{needs}
 use Rattle.drawing.proofs.draw_places.Statement.{statement}
 use Rattle.drawing.proofs.draw_places.Tie as tie
 
 abbrev Inv-loop : tie.InvT-loop
-Inv-loop list₀ n router y places next₀ i₀ list next i = (i ≤ 48) × (length list ≡ length list₀)
+Inv-loop list₀ n router y places next₀ i₀ list next i = i ≤ 48
 
 abbrev μ-loop : tie.MeasureT-loop
 μ-loop list₀ n router y places next₀ i₀ list next i = 48 - i
@@ -23,7 +21,6 @@ draw-places-spec =
     (λ c. search needs)
     (λ c κs. search needs)
     (λ c κs. search needs)
-    (λ c. search needs)
     (λ c. search needs)
     (λ c. search needs)
     (λ c. search needs)

@@ -1,13 +1,11 @@
 -- `drawing::draw_styles` is safe and ends: there are 16 lines of style. Assumes nothing.
 use Prim.Native.Nat.{_≤_, _-_}
-use mathlib.Core.Path.{_≡_}
-use lib.ListN.{length}
 use borrow.Author.Needs.{needs}
 use Rattle.drawing.proofs.draw_styles.Statement.{statement}
 use Rattle.drawing.proofs.draw_styles.Tie as tie
 
 abbrev Inv-loop : tie.InvT-loop
-Inv-loop list₀ n next₀ i₀ list next i = (i ≤ 16) × (length list ≡ length list₀)
+Inv-loop list₀ n next₀ i₀ list next i = i ≤ 16
 
 abbrev μ-loop : tie.MeasureT-loop
 μ-loop list₀ n next₀ i₀ list next i = 16 - i
@@ -21,7 +19,6 @@ draw-styles-spec =
     (λ c. search needs)
     (λ c. search needs)
     (λ c κs. search needs)
-    (λ c. search needs)
     (λ c. search needs)
     (λ c. search needs)
     (λ c. search needs)
