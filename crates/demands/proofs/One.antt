@@ -34,6 +34,7 @@ one-result = record {
   list = λ ps n k l m. places.one-list ps l m n k;
   rule-for = ruling.one-rule-for;
   on-message = routing.one-on-message;
+  on-response = routing.one-on-response;
   on-give-up = routing.one-on-give-up;
   on-replaced = routing.one-on-replaced;
   route = λ r message before x y a b. router.one-route r x y message before a b;

@@ -9,6 +9,7 @@ use mathlib.Core.List.{List}
 use mathlib.Core.Bool.{Bool}
 use denote.Ref.{RefT, now}
 use Rattle.message.specs.declared.Head.{Head}
+use Rattle.message.specs.declared.Coded.{Coded}
 use Rattle.message.specs.Message.{Wrote, DataPart}
 use Rattle.table.specs.Table.{Opened}
 use Rattle.place.specs.declared.Place.{Place}
@@ -18,7 +19,7 @@ use Rattle.rules.specs.declared.Outcome.{Outcome}
 use Rattle.router.specs.declared.Router.{Router}
 use Rattle.ruling.specs.Ruling.{Lent, lent, ruled}
 use Rattle.routing.specs.declared.Step.{Step}
-use Rattle.routing.specs.Steps.{OnMessage, OnGiveUp, OnReplaced}
+use Rattle.routing.specs.Steps.{OnMessage, OnResponse, OnGiveUp, OnReplaced}
 use Rattle.router.specs.Router.{Routes, GivesUp, Replaces, routedTo}
 use Rattle.sending.specs.Sending.{Sending}
 use Rattle.replies.specs.Replies.{Replies}
@@ -77,6 +78,10 @@ pub record OneResult : Type 0 where
       → OnMessage (lent cells c) n (lent list l) k message (lent reply b) s
       → OnMessage (lent cells c′) n (lent list l′) k message (lent reply b′) s′
       → (s ≡ s′) × (now l ≡ now l′) × (now c ≡ now c′) × (now b ≡ now b′)
+  pub on-response : (list l l′ : RefT (List ℕ)) (k : ℕ) (s s′ : Step) (cells c c′ : RefT (List ℕ)) (n : ℕ) (h : Head) (coded : Coded)
+      → OnResponse (lent cells c) n (lent list l) k h coded s
+      → OnResponse (lent cells c′) n (lent list l′) k h coded s′
+      → (s ≡ s′) × (now l ≡ now l′) × (now c ≡ now c′)
   pub on-give-up : (list l l′ : RefT (List ℕ)) (k : ℕ) (s s′ : Step) (thread address : ℕ) (reply b b′ : RefT (List ℕ))
       → OnGiveUp (lent list l) k thread address (lent reply b) s
       → OnGiveUp (lent list l′) k thread address (lent reply b′) s′

@@ -2,3 +2,4 @@ pub mod Once
 pub mod Points
 pub mod Two
 pub mod Leaves
+pub mod Tree

@@ -4,8 +4,9 @@
 // the caller lends the 48 numbers and says how many are in use. They stand oldest first, and a
 // free cell is 0.
 //
-// The contracts read the list newest first (`placesOf`), so that a place's number is how many places
-// are older: its index.
+// The definitions read the list newest first (`placesOf`), so that a place's number is how many places
+// are older: its index. The code stands in two rooms: router_walks has what the list is asked,
+// router_changes what is done to it.
 //
 // The law of a list (`Lawful`) is that of any array that holds a list (room lists, Arrays). A
 // change keeps the law, and the places with the law leave one array possible: proofs/Once.antt.

@@ -1,12 +1,13 @@
-// TODO: purpose of router_changes.
+// What is done to the list of places: one more, one owed from now on, one less, a handler's owings
+// ended.
+//
+// A change works in place on the lent list and keeps its law (`Lawful`, room places). Where the number
+// of places may change, it answers the next one.
 use place::Place;
 ghost use mathlib.Core.List.{_∷_};
 ghost use Prim.Native.Nat.{_<_};
 ghost use Rattle.lists.specs.Lists.{keep, withoutAt, changedAt};
-ghost use Rattle.places.specs.Places.{placesOf, Lawful, Becomes, owing};
-ghost use Rattle.places.specs.Places.{notOwedBy};
-
-// ---- changes, each with the next count
+ghost use Rattle.places.specs.Places.{placesOf, Lawful, Becomes, owing, notOwedBy};
 
 // One place more, the newest. It is asked only where there is room, so no place is dropped. The law of
 // a router's state gives the room: at most 44 places are in use (rules, Bound).

@@ -1,4 +1,8 @@
-// TODO: purpose of router_command.
+// A message: the common checks in their order, and then what follows by its type.
+//
+// A response goes to router_response, an event changes nothing. Any other type is a command: `ruling`
+// says whether it is turned back, with a response in the reply buffer, or passed and becomes a wait.
+// What is done is defined in `routing` (`OnMessage`).
 use message::Head;
 use message::Reading;
 use place::Place;

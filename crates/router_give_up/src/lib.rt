@@ -1,9 +1,12 @@
-// TODO: purpose of router_give_up.
+// Give up and replaced: the calls that the kiosk makes of its own, without a message.
+//
+// A give up makes the wait that asks an address an owing, and writes a response to its asker. A
+// replaced call ends a handler's owings and closes it. What is done is defined in `routing`
+// (`OnGiveUp`, `OnReplaced`).
 use places::Leaf;
 use routing::Step;
 use rules::Outcome;
 use tapa::Refusal;
-ghost use Prim.Native.Nat.{_<_};
 ghost use Rattle.table.specs.Table.{Column};
 ghost use Rattle.places.specs.Places as places;
 ghost use Rattle.routing.specs.Steps.{OnGiveUp, OnReplaced};

@@ -1,4 +1,8 @@
-// TODO: purpose of router_response.
+// Type 'FF': what a response does to the arrays of a state.
+//
+// The wait of exactly its source and thread is answered and ends, and an answered Open Handler or
+// Close Handler marks its row. Where no wait wants the response, an owing of it swallows it and ends.
+// What is decided is defined in `rules` (`judgeResponse`), what is done in `routing`.
 use lists::Found;
 use message::Coded;
 use message::Head;
@@ -11,11 +15,9 @@ ghost use mathlib.Core.Path.{_≡_};
 ghost use Rattle.table.specs.Table.{Column};
 ghost use Rattle.places.specs.Places as places;
 ghost use Rattle.rules.specs.declared.Outcome.the-variants.{Answered};
-ghost use Rattle.rules.specs.Judge.{late, judgeResponse};
+ghost use Rattle.rules.specs.Judge.{late};
 ghost use Rattle.ruling.specs.Ruling.{placesIn};
-ghost use Rattle.routing.specs.Steps.{Placed, Moved, OpenOrClosed};
-
-// ---- Type 'FF'
+ghost use Rattle.routing.specs.Steps.{Placed, OnResponse, OpenOrClosed};
 
 // The handler of an answered Open Handler or Close Handler becomes open or closed.
 fn open_or_close(cells: &mut [u32; 16], count: usize, wait: Place, code: u16)
@@ -77,7 +79,7 @@ pub fn on_response(
 ) -> Step
     requires { ⌜ places.Lawful (now list) len ⌝ }
     requires { ⌜ Column (now cells) count ⌝ }
-    ensures { λ s. ⌜ Moved (judgeResponse (placesIn list len) head coded) cells count list len s ⌝ }
+    ensures { λ s. ⌜ OnResponse cells count list len head coded s ⌝ }
 {
     let Coded::Code(code) = coded else {
         return routing::refuse(Refusal::NoResponseCode, len);

@@ -1,9 +1,13 @@
-// TODO: purpose of router_rows.
+// The rows of a table, as code: held by value, looked up, and marked as open or closed.
+//
+// A row is one number in a column of 16 (room table says which). A look-up takes the column of any
+// table of at most 16 rows. A mark keeps the law of the column, and with the rows the law leaves one
+// column possible (table, proofs/Once.antt).
 use table::Row;
 use table::Rows;
 ghost use mathlib.Core.Path.{_≡_};
 ghost use Prim.Native.Nat.{_≤_};
-ghost use Rattle.table.specs.Table.{pack, listed, openedAt, Column, Opened, rowsOf, noRows, withRow};
+ghost use Rattle.table.specs.Table.{pack, addressAt, listed, openedAt, Column, Opened, rowsOf, noRows, withRow};
 
 // ---- rows by value
 
@@ -38,6 +42,18 @@ pub fn with_row(rows: Rows, row: Row) -> Rows
         next.more = true;
     }
     next
+}
+
+// ---- a row by its number
+
+// The address of row i; past the cells it is 0.
+pub fn address_at(cells: &[u32; 16], i: usize) -> u16
+    ensures { λ r. ⌜ r ≡ addressAt (now (cells .entry)) i ⌝ }
+{
+    if i < 16 {
+        return (cells[i] / 2 % 0x10000) as u16;
+    }
+    0
 }
 
 // ---- look-up by handler
@@ -75,6 +91,8 @@ pub fn is_open(cells: &[u32; 16], count: usize, handler: u16) -> bool
     }
     found
 }
+
+// ---- marks
 
 // Marks a handler's row as open or closed. A handler that has no row changes nothing.
 pub fn set_open(cells: &mut [u32; 16], count: usize, handler: u16, to: bool)

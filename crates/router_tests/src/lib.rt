@@ -1,4 +1,7 @@
-// TODO: purpose of router_tests.
+// One place, as code: packed into its number, read back, and tested.
+//
+// The tests are asked of the number, as the list of places keeps it. Each is one question that the
+// rules ask of a passed command (room place says what it means), and none changes anything.
 use place::Place;
 ghost use mathlib.Core.Path.{_≡_};
 ghost use Rattle.place.specs.Place.{unpack, Packed, openOn, asksExactly, owesExactly, stands, standsOn, holdsOn, standsIn, onSlot, owedBy};

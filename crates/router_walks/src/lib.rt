@@ -1,15 +1,17 @@
-// TODO: purpose of router_walks.
+// What the list of places is asked: which wait a response or a give up is about, what is owed, where
+// a handler stands, and whether it is taken.
+//
+// A walk goes over the lent list once and changes nothing. Room places says what the answers mean,
+// room router_tests what is asked of one place.
 use lists::Found;
 use place::Place;
 use places::Leaf;
 use places::Standing;
 ghost use mathlib.Core.Path.{_≡_};
-ghost use Prim.Native.Nat.{_<_};
 ghost use Rattle.lists.specs.Lists.{find, someOf};
-ghost use Rattle.places.specs.Places.{placesOf, placeAt, Lawful, owing, leafBy, leafOf, standingOf};
-ghost use Rattle.places.specs.Places.{owesExactly, standsOn, standsIn, onSlot};
+ghost use Rattle.places.specs.Places.{placesOf, placeAt, Lawful, owesExactly, standsOn, standsIn, onSlot, leafBy, leafOf, standingOf};
 
-// ---- what the list is asked; a walk goes over it once
+// ---- a place by its number
 
 // The place with a number; past the count it is one of zeros.
 pub fn place_at(list: &[u64; 48], n: usize, at: usize) -> Place
@@ -21,6 +23,8 @@ pub fn place_at(list: &[u64; 48], n: usize, at: usize) -> Place
     }
     router_tests::place_of(0)
 }
+
+// ---- a thread's tree
 
 // A wait that was found is a leaf, unless its handler holds a question.
 fn leaf_by(holds: bool, found: Found) -> Leaf
@@ -81,6 +85,8 @@ pub fn standing_of(list: &[u64; 48], n: usize, thread: u8, handler: u16) -> Stan
     }
     Standing::Empty
 }
+
+// ---- an owing, and a handler
 
 // The owing on a thread of exactly this asked address.
 pub fn find_owed(list: &[u64; 48], n: usize, asked: u16, thread: u8) -> Found

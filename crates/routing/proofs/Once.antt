@@ -4,6 +4,8 @@ use mathlib.Core.Path.{_≡_, sym, _∙_}
 use mathlib.Core.List.{List, []}
 use denote.Ref.{RefT, now}
 use Rattle.lists.proofs.Arrays.{one-array}
+use Rattle.message.specs.declared.Head.{Head}
+use Rattle.message.specs.declared.Coded.{Coded}
 use Rattle.table.specs.Table.{pack, unpack}
 use Rattle.place.specs.declared.Place.{Place}
 use Rattle.places.proofs.Once.{one-list}
@@ -11,7 +13,7 @@ use Rattle.rules.specs.View.{View}
 use Rattle.rules.specs.declared.Outcome.{Outcome}
 use Rattle.ruling.specs.Ruling.{Lent, lent}
 use Rattle.routing.specs.declared.Step.{Step}
-use Rattle.routing.specs.Steps.{Placing, Moving, OnMessage, OnGiveUp, OnReplaced}
+use Rattle.routing.specs.Steps.{Placing, Moving, OnMessage, OnResponse, OnGiveUp, OnReplaced}
 
 same : (p q : Outcome) (m n : ℕ) → p ≡ q → m ≡ n → _≡_ {A = Step} (record { outcome = p; len = m }) (record { outcome = q; len = n })
 same p q m n e f = cc
@@ -36,6 +38,12 @@ module _ (list l l′ : RefT (List ℕ)) (k : ℕ) (s s′ : Step) where
     one-on-message message reply b b′ x y =
         let p = one-moving _ (now l) (now l′) s s′ _ (now c) (now c′) n (x .moving) (y .moving) in
         (p .0, p .1, p .2, x .reply ∙ sym (y .reply))
+
+    pub one-on-response : (h : Head) (coded : Coded)
+        → OnResponse (lent cells c) n (lent list l) k h coded s
+        → OnResponse (lent cells c′) n (lent list l′) k h coded s′
+        → (s ≡ s′) × (now l ≡ now l′) × (now c ≡ now c′)
+    one-on-response h coded = one-moving _ (now l) (now l′) s s′ _ (now c) (now c′) n
 
     pub one-on-replaced : (address : ℕ)
         → OnReplaced (lent cells c) n (lent list l) k address s

@@ -7,6 +7,8 @@ use lib.ListN.{length}
 use denote.Ref.{now}
 use Rattle.lists.specs.Arrays.{Becoming}
 use Rattle.tapa.specs.declared.Refusal.{Refusal}
+use Rattle.message.specs.declared.Head.{Head}
+use Rattle.message.specs.declared.Coded.{Coded}
 use Rattle.table.specs.declared.Row.{Row}
 use Rattle.table.specs.Table.{pack, unpack, rowsOf}
 use Rattle.place.specs.declared.Place.{Place}
@@ -14,7 +16,7 @@ use Rattle.places.specs.Places.{Becomes}
 use Rattle.rules.specs.View.{View}
 use Rattle.rules.specs.declared.Outcome.{Outcome}
 use Rattle.rules.specs.declared.Outcome.the-variants.{Refused}
-use Rattle.rules.specs.Judge.{judgeMessage, judgeGiveUp, judgeReplaced}
+use Rattle.rules.specs.Judge.{judgeMessage, judgeResponse, judgeGiveUp, judgeReplaced}
 use Rattle.rules.specs.Apply.{answeredRows, rowsAfter, placesAfter, written}
 use Rattle.ruling.specs.Ruling.{Lent, placesIn, viewIn}
 use Rattle.routing.specs.declared.Step.{Step}
@@ -79,6 +81,9 @@ abbrev pub OnReplaced : (cells : Lent) → (n : ℕ) → (list : Lent) → (k ad
 OnReplaced cells n list k a s = Moved (judgeReplaced (viewIn cells n list k) a) cells n list k s
 
 -- ---- Type 'FF'
+
+abbrev pub OnResponse : (cells : Lent) → (n : ℕ) → (list : Lent) → (k : ℕ) → Head → Coded → Step → Type 0
+OnResponse cells n list k h coded s = Moved (judgeResponse (placesIn list k) h coded) cells n list k s
 
 -- the cells once the wait w was answered with a code
 abbrev pub OpenOrClosed : (before after : List ℕ) → (n : ℕ) → Place → (code : ℕ) → Type 0

@@ -1,9 +1,10 @@
 // Routing one message: what a call does to the arrays of a state, in place.
 //
-// The functions are split as the rules are: a response, an event, a command, a give up, a replaced
-// call. `ruling` decides on events and commands, `places` finds what a response or a give up is about,
-// and what follows is done here. Each is held to the rules' own definitions,
-// `judge..` and `applied`. `router` lends them the arrays of its state.
+// Here stand the definitions that the code is held to, which are the rules' own `judge..` and
+// `applied` said of lent arrays, and the laws of each step. The code stands in three rooms, split as
+// the rules are: router_response (type 'FF'), router_command (the common checks, an event, any other
+// type) and router_give_up (give up, replaced). `ruling` decides, `router_walks` finds, and they do
+// what follows. `router` lends them the arrays of its state.
 //
 // A command that is passed becomes a place, so what works in place on a message rests on room for one
 // place more (`len < 48`). The law of a router's state gives it: at most 44 places are in use (rules,
@@ -11,7 +12,6 @@
 use rules::Outcome;
 use tapa::Refusal;
 ghost use mathlib.Core.Path.{_≡_};
-ghost use Rattle.rules.specs.Apply.{place};
 ghost use Rattle.routing.specs.Steps.{refusing};
 
 // What a function that works in place answers: the outcome, and how many places there are now.

@@ -57,7 +57,7 @@ fn has_repeats(cells: &[u32; 16], count: usize) -> bool
     let mut i = count;
     while 0 < i {
         i -= 1;
-        if router_rows::is_listed(cells, i, (cells[i] / 2) as u16) {
+        if router_rows::is_listed(cells, i, router_rows::address_at(cells, i)) {
             return true;
         }
     }
@@ -72,7 +72,7 @@ fn multi_count(cells: &[u32; 16], count: usize) -> usize
     let mut multis = 0;
     let mut i = 0;
     while i < count {
-        if tapa::is_multi((cells[i] / 2) as u16) {
+        if tapa::is_multi(router_rows::address_at(cells, i)) {
             multis += 1;
         }
         i += 1;

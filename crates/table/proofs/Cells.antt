@@ -1,13 +1,14 @@
 -- A row and its number; and what is asked of a column, row by row.
 use Prim.Native.Nat.{ℕ, zero, suc, _+_, _*_, _-_, _/_, _%_, _≤_, _<_}
-use mathlib.Core.Path.{_≡_, sym, ap, _∙_}
+use mathlib.Core.Path.{_≡_, refl, sym, ap, _∙_}
 use mathlib.Core.Bool.{Bool, true, false}
-use mathlib.Core.List.{List}
+use mathlib.Core.List.{List, [], _∷_}
 use native.Mathlib.Nat.{not-suc-le-zero}
 use native.Mathlib.Omega.{arith}
 use lib.Dec.{eqb, leb}
-use lib.ListN.{getD, set}
-use borrow.Author.Tests.{eq-eqb, ne-eqb, eqb-true, eqb-false, leb-true, not-false}
+use lib.ListN.{length, getD, set}
+use lib.Seq.{getD-set-same}
+use borrow.Author.Tests.{eq-eqb, ne-eqb, eqb-true, eqb-false, leb-true, lt-ltb, le-ltb, not-false}
 use Rattle.lists.specs.Lists.{one, someOf}
 use Rattle.lists.specs.declared.Found.the-variants.{At, Nothing}
 use Rattle.lists.specs.Lists.{find}
@@ -17,7 +18,7 @@ use Rattle.lists.proofs.Numbers.{change-found, find-none-changed}
 use Rattle.lists.proofs.Arrays.{back-one, changed-now}
 use Rattle.tapa.specs.Address.{categoryOf}
 use Rattle.table.specs.declared.Row.{Row}
-use Rattle.table.specs.Table.{pack, unpack, isAt, isOpenAt, marked, listed, repeats, shaped, misshapen, rowsOf, Column, Narrow, Opened}
+use Rattle.table.specs.Table.{pack, unpack, addressAt, isAt, isOpenAt, marked, listed, repeats, shaped, misshapen, rowsOf, Column, Narrow, Opened}
 
 -- ---- a row and its number
 
@@ -52,14 +53,35 @@ not-open-at x h n =
     (λ e. rw (e, ne-eqb (x % 2) 1 (λ f. n (omega (arith, eqb-true (x / 2) h e)))))
     (λ e. rw e)
 
+-- ---- the address of a row
+
+-- '0202' open, '0700' closed, and no third row
+pub address-written : (addressAt (0x0405 ∷ 0x0E00 ∷ []) 0 ≡ 0x0202) × (addressAt (0x0405 ∷ 0x0E00 ∷ []) 1 ≡ 0x0700) × (addressAt (0x0405 ∷ 0x0E00 ∷ []) 2 ≡ 0)
+address-written = (refl, refl, refl)
+
+-- the address that a row was put there with
+pub address-back : (c : List ℕ) (i : ℕ) (r : Row) → i < 16 → i < length c → r .address < 0x10000 → addressAt (set c i (pack r)) i ≡ r .address
+address-back c i r f k l =
+    rw (lt-ltb i 16 f, getD-set-same c i (pack r) 0 k)
+    (let p : pack r / 2 ≡ r .address = ap (λ (x : Row). x .address) (row-back r) in
+    omega (arith, p))
+
+-- of narrow rows it is the address that they hold
+pub address-held : (c : List ℕ) (n i : ℕ) → Narrow c n → i < n → addressAt c i ≡ getD c i 0 / 2
+address-held c n i w k = rw (lt-ltb i 16 (omega (arith, w .few))) (omega (arith, w .narrow i k))
+
+pub address-past : (c : List ℕ) (i : ℕ) → 16 ≤ i → addressAt c i ≡ 0
+address-past c i k = rw (le-ltb i 16 k)
+
 -- ---- repeats, on the way down
 
 module _ (c : List ℕ) (i : ℕ) (pos : 0 < i) where
-  pub repeat-here : {r : Bool} → repeats (rowsOf c i) ≡ r → listed (getD c (i - 1) 0 / 2) (rowsOf c (i - 1)) ≡ true → true ≡ r
-  repeat-here e t = sym (ap repeats (back-one unpack c i pos) ∙ rw t) ∙ e
+  module _ (a : ℕ) (k : a ≡ getD c (i - 1) 0 / 2) where
+    pub repeat-here : {r : Bool} → repeats (rowsOf c i) ≡ r → listed a (rowsOf c (i - 1)) ≡ true → true ≡ r
+    repeat-here e t = sym (ap repeats (back-one unpack c i pos) ∙ rw (rw k at t)) ∙ e
 
-  pub repeat-past : {r : Bool} → repeats (rowsOf c i) ≡ r → listed (getD c (i - 1) 0 / 2) (rowsOf c (i - 1)) ≡ false → repeats (rowsOf c (i - 1)) ≡ r
-  repeat-past e t = sym (ap repeats (back-one unpack c i pos) ∙ rw t) ∙ e
+    pub repeat-past : {r : Bool} → repeats (rowsOf c i) ≡ r → listed a (rowsOf c (i - 1)) ≡ false → repeats (rowsOf c (i - 1)) ≡ r
+    repeat-past e t = sym (ap repeats (back-one unpack c i pos) ∙ rw (rw k at t)) ∙ e
 
 -- ---- rows that are shaped have addresses of two bytes
 

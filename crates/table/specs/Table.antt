@@ -89,6 +89,10 @@ pack r = r .address * 2 + one (r .opened)
 abbrev pub unpack : ℕ → Row
 unpack x = record { address = x / 2; opened = eqb (x % 2) 1 }
 
+-- the address of row i in two bytes, as it is handed out; past the 16 cells it is 0
+abbrev pub addressAt : List ℕ → ℕ → ℕ
+addressAt c i = cond (ltb i 16) (getD c i 0 / 2 % 0x10000) 0
+
 -- the first n rows, last first
 abbrev pub rowsOf : List ℕ → ℕ → List Row
 rowsOf c n = held unpack c n

@@ -1,11 +1,11 @@
 // The table of handlers: rows of address and open or closed.
 //
 // Rows are held by value in one column of numbers, which is cheap to lend and to carry in a
-// state: a row's number is twice its address, and one more where it is open. Look-ups take the
-// column of any table of at most 16 rows.
+// state: a row's number is twice its address, and one more where it is open.
 //
-// What makes a table, and what is said of one, are definitions here (specs/); room setup has the
-// code of the checks, and reads the rows that a caller lends.
+// What makes a table, and what is said of one, are definitions here (specs/), with their laws. The
+// code stands in two rooms: router_rows looks rows up and marks them, setup has the checks and reads
+// the rows that a caller lends.
 //
 // A row of an accepted table names its handler: its sub-address has no top bit.
 use tapa::Refusal;

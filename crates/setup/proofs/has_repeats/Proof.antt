@@ -4,7 +4,7 @@ use mathlib.Core.Path.{sym, _∙_}
 use native.Mathlib.Omega.{arith}
 use Rattle.lists.proofs.Arrays.{Below, walked}
 use Rattle.table.specs.Table.{unpack, repeats}
-use Rattle.table.proofs.Cells.{repeat-here, repeat-past}
+use Rattle.table.proofs.Cells.{address-held, repeat-here, repeat-past}
 use borrow.Author.Needs.{needs}
 use Rattle.setup.proofs.has_repeats.Statement.{statement}
 use Rattle.setup.proofs.has_repeats.Tie as tie
@@ -15,18 +15,17 @@ Inv-loop cells count i₀ i = Below unpack repeats cells count i
 abbrev μ-loop : tie.MeasureT-loop
 μ-loop cells count i₀ i = i
 
-cast-is-listed : tie.Need-cast-is-listed Inv-loop μ-loop
-cast-is-listed c = record { fits = omega (arith, c .before .before .before .pre .narrow (c .before .before .loop .i - 1) (omega arith)) }
-
 returns : tie.Need-returns Inv-loop μ-loop
 returns c =
     let s = c .before .before .before .before in
-    repeat-here _ (s .loop .i) (search needs) (s .loop .inv .1) (sym (c .before .is-listed .ensures) ∙ c .if1 .taken)
+    let k = c .before .before .address-at .ensures ∙ address-held _ _ (s .loop .i - 1) (s .before .pre) (omega arith) in
+    repeat-here _ (s .loop .i) (search needs) _ k (s .loop .inv .1) (sym (c .before .is-listed .ensures) ∙ c .if1 .taken)
 
 loop-again : tie.Need-loop-again Inv-loop μ-loop
 loop-again c =
     let s = c .before .before .before .before in
-    (search needs, repeat-past _ (s .loop .i) (search needs) (s .loop .inv .1) (sym (c .before .is-listed .ensures) ∙ c .if1 .left))
+    let k = c .before .before .address-at .ensures ∙ address-held _ _ (s .loop .i - 1) (s .before .pre) (omega arith) in
+    (search needs, repeat-past _ (s .loop .i) (search needs) _ k (s .loop .inv .1) (sym (c .before .is-listed .ensures) ∙ c .if1 .left))
 
 returns-2 : tie.Need-returns-2 Inv-loop μ-loop
 returns-2 c =
@@ -36,5 +35,5 @@ returns-2 c =
 pub has-repeats-spec : {M : Type 1} → statement M
 has-repeats-spec =
     tie.close
-    (tie.spec Inv-loop μ-loop (λ c. search needs) (λ c. search needs) (λ c. search needs) (λ c. search needs) cast-is-listed (λ c κs. search needs)
+    (tie.spec Inv-loop μ-loop (λ c. search needs) (λ c. search needs) (λ c κs. search needs) (λ c κs. search needs)
     returns (λ c. search needs) loop-again returns-2)

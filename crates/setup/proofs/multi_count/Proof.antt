@@ -5,7 +5,9 @@ use mathlib.Core.Logic.{⊎-elim}
 use native.Mathlib.Omega.{arith}
 use Rattle.lists.specs.Lists.{count as countOf}
 use Rattle.lists.proofs.Arrays.{count-hit, count-miss}
+use Rattle.tapa.specs.Address.{multi}
 use Rattle.table.specs.Table.{unpack, isMulti, rowsOf}
+use Rattle.table.proofs.Cells.{address-held}
 use borrow.Author.Needs.{needs}
 use Rattle.setup.proofs.multi_count.Statement.{statement}
 use Rattle.setup.proofs.multi_count.Tie as tie
@@ -16,16 +18,14 @@ Inv-loop cells count multis₀ i₀ multis i = (i ≤ count) × (multis ≤ i) �
 abbrev μ-loop : tie.MeasureT-loop
 μ-loop cells count multis₀ i₀ multis i = count - i
 
-cast-is-multi : tie.Need-cast-is-multi Inv-loop μ-loop
-cast-is-multi c = record { fits = omega (arith, c .before .before .before .pre .narrow (c .before .before .loop .i) (omega arith)) }
-
 loop-again : tie.Need-loop-again Inv-loop μ-loop
 loop-again c =
     let s = c .before .before .before .before in
-    let m = c .before .is-multi .ensures in
+    let k = c .before .before .address-at .ensures ∙ address-held _ _ (s .loop .i) (s .before .pre) (omega arith) in
+    let m = sym (ap multi k) ∙ sym (c .before .is-multi .ensures) in
     ⊎-elim
-    (λ w. (search needs, search needs, rw (w .1) (count-hit unpack isMulti _ (s .loop .i) _ (s .loop .inv .2) (sym m ∙ w .0 .taken))))
-    (λ w. (search needs, search needs, rw (w .1) (count-miss unpack isMulti _ (s .loop .i) _ (s .loop .inv .2) (sym m ∙ w .0 .left))))
+    (λ w. (search needs, search needs, rw (w .1) (count-hit unpack isMulti _ (s .loop .i) _ (s .loop .inv .2) (m ∙ w .0 .taken))))
+    (λ w. (search needs, search needs, rw (w .1) (count-miss unpack isMulti _ (s .loop .i) _ (s .loop .inv .2) (m ∙ w .0 .left))))
     (c .if1 .came)
 
 returns : tie.Need-returns Inv-loop μ-loop
@@ -38,5 +38,5 @@ returns c =
 pub multi-count-spec : {M : Type 1} → statement M
 multi-count-spec =
     tie.close
-    (tie.spec Inv-loop μ-loop (λ c. search needs) (λ c. search needs) (λ c. search needs) cast-is-multi (λ c κs. search needs) (λ c. search needs)
+    (tie.spec Inv-loop μ-loop (λ c. search needs) (λ c κs. search needs) (λ c κs. search needs) (λ c. search needs)
     (λ c. search needs) (λ c. search needs) loop-again returns)
