@@ -697,7 +697,7 @@ impl Bench {
     {
         if LONGEST < input.len() {
             return Turn {
-                length: lines::long_line(line, 0),
+                length: session_lines::long_line(line, 0),
                 more: false,
                 next: self,
             };

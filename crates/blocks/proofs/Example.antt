@@ -2,7 +2,8 @@
 use mathlib.Core.Path.{_≡_, refl}
 use mathlib.Core.List.{_++_}
 use Rattle.text.specs.Text.{ascii}
-use Rattle.blocks.specs.Blocks.{indented, heads}
+use Rattle.blocks.specs.Words.{indented}
+use Rattle.blocks.specs.Blocks.{heads}
 
 -- each line of the words is set in, and the last is closed
 pub set-in : indented (ascii "It asks.\nThe answer waits.") ≡ ascii "    It asks.\n    The answer waits.\n"

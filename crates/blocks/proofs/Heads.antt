@@ -18,7 +18,8 @@ use Rattle.run.proofs.Left.{first-left, fewer-left}
 use Rattle.transcript.specs.Prescribed.{lineOf, prescribed, linesLeft}
 use Rattle.transcript.proofs.Ends.{Line, every-line}
 use Rattle.blocks.specs.declared.Page.{Page}
-use Rattle.blocks.specs.Blocks.{indented, heads, Blocks, none, block, Told, Explained, begun, told}
+use Rattle.blocks.specs.Words.{indented}
+use Rattle.blocks.specs.Blocks.{heads, Blocks, none, block, Told, Explained, begun, told}
 use Rattle.blocks.proofs.Shows.{Shows, shows-more, shows-heads, words-hidden, bare-line, line-shown}
 
 -- ---- a page that is full leaves fewer items

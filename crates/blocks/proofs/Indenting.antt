@@ -6,12 +6,11 @@ use mathlib.Core.List.{List, [], _∷_, _++_}
 use native.Mathlib.Omega.{arith}
 use native.Mathlib.Numerals.{add-one}
 use lib.Dec.{eqb}
-use lib.ListN.{length, drop, getD, drop-of-length-le}
-use lib.Seq.{drop-cons, append-snoc}
+use lib.ListN.{length, take, drop, getD, drop-of-length-le}
+use lib.Seq.{drop-cons, append-snoc, take-all}
 use Rattle.text.specs.Text.{Pen, pen, ascii, puts}
 use Rattle.text.proofs.Laws.{puts-none, puts-append, puts-length, more}
-use Rattle.lines.specs.Lines.{lf}
-use Rattle.blocks.specs.Blocks.{indentedFrom, indented}
+use Rattle.blocks.specs.Words.{indentedFrom, indented}
 
 -- ---- the loop of `indent`: e is the whole text, written; at each turn the words from i on are still to come
 
@@ -47,8 +46,17 @@ pub closed : (fresh : Bool) (p e : Pen) (s : List ℕ) (i : ℕ) → puts p (ind
 closed fresh p e s i h k b = sym (puts-none p) ∙ rw (b, drop-of-length-le s {i = i} k) at h
 
 pub closes : (fresh : Bool) (p q e : Pen) (s : List ℕ) (i : ℕ) → puts p (indentedFrom fresh (drop i s)) ≡ e → length s ≤ i → fresh ≡ false
-    → q ≡ puts p lf → q ≡ e
+    → q ≡ puts p (ascii "\n") → q ≡ e
 closes fresh p q e s i h k b f = f ∙ rw (b, drop-of-length-le s {i = i} k) at h
+
+-- ---- the returns of `note`: n of the bytes are set in
+
+-- what was said, or all that there is
+pub as-said : (l : List ℕ) (n said : ℕ) (p q : Pen) → q ≡ puts p (indented (take n l)) → n ≡ said → q ≡ puts p (indented (take said l))
+as-said l n said p q e f = rw (← f) e
+
+pub all-said : (l : List ℕ) (n said : ℕ) (p q : Pen) → q ≡ puts p (indented (take n l)) → length l ≤ n → n ≤ said → q ≡ puts p (indented (take said l))
+all-said l n said p q e f g = e ∙ ap (λ (x : List ℕ). puts p (indented x)) (take-all n l f ∙ sym (take-all said l (omega arith)))
 
 -- ---- four spaces for each byte at most, and one byte to close
 

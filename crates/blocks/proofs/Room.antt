@@ -4,7 +4,7 @@ use mathlib.Core.Path.{_≡_, refl, sym, ap, _∙_}
 use mathlib.Core.Bool.{true, false}
 use mathlib.Core.List.{List, [], _++_}
 use native.Mathlib.Omega.{arith}
-use lib.ListN.{length, take, drop, length-append}
+use lib.ListN.{length, take, drop, length-append, length-take}
 use lib.Seq.{take-append-seam}
 use borrow.Author.Tests.{lt-ltb, le-ltb}
 use Rattle.text.specs.Text.{Pen, pen, puts}
@@ -15,7 +15,8 @@ use Rattle.run.specs.State.{Ready, Turns}
 use Rattle.run.proofs.Left.{none-left}
 use Rattle.transcript.specs.Prescribed.{lineWith, lineOf}
 use Rattle.transcript.proofs.Short.{short}
-use Rattle.blocks.specs.Blocks.{indented, Written, Noted, Put, Blocks, none, block, Told}
+use Rattle.blocks.specs.Words.{indented}
+use Rattle.blocks.specs.Blocks.{Written, Noted, Put, Blocks, none, block, Told}
 use Rattle.blocks.proofs.Indenting.{long}
 
 -- a text that fits stands whole at the page's front
@@ -25,6 +26,14 @@ front old new t used e h =
     let n : length new ≡ length old = ap (λ (x : Pen). length (x .bytes)) e ∙ puts-length (pen old 0) t in
     let a : used ≡ length t = ap (λ (x : Pen). x .at) f in
     (rw (ap (λ (x : Pen). x .bytes) f, a) (take-append-seam t (drop (length t) old)), omega arith)
+
+-- from the contract of `show_notes::note`: the words are those that were said
+pub written : (old new words : List ℕ) (place said used : ℕ)
+    → pen new used ≡ puts (pen old place) (indented (take said words))
+    → length old ≡ 65536
+    → length words ≡ 8192
+    → Written old place new used
+written old new words place said used e r n = record { words = take said words; few = omega (arith, length-take said words, n); room = r; text = e }
 
 -- words alone
 pub noted : (old new : List ℕ) (used : ℕ) → Written old 0 new used → Noted new used

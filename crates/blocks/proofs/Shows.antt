@@ -16,7 +16,8 @@ use Rattle.run.specs.declared.Item.the-variants.{Came, Over, Broken, Refused, T
 use Rattle.run.specs.State.{handsOut}
 use Rattle.transcript.specs.Prescribed.{lineWith, lineOf}
 use Rattle.transcript.proofs.Ends.{Plain, Line}
-use Rattle.blocks.specs.Blocks.{indentedFrom, indented, start, shown, hidden, headsFrom, heads}
+use Rattle.blocks.specs.Words.{indentedFrom, indented}
+use Rattle.blocks.specs.Blocks.{start, shown, hidden, headsFrom, heads}
 
 -- ---- whole lines
 

@@ -1,27 +1,18 @@
 -- A session explained: 'a block that begins with the session program's own line and then says in plain words what came'.
 use Prim.Native.Nat.{ℕ, _≤_}
 use mathlib.Core.Path.{_≡_}
-use mathlib.Core.Bool.{Bool, true, false, cond}
+use mathlib.Core.Bool.{true, false, cond}
 use mathlib.Core.List.{List, [], _∷_, _++_}
 use lib.Dec.{ltb, eqb}
 use lib.ListN.{length, take}
-use Rattle.text.specs.Text.{ascii, pen, puts}
-use Rattle.lines.specs.Lines.{lf}
+use Rattle.text.specs.Text.{pen, puts}
 use Rattle.run.specs.declared.Session.{Session}
 use Rattle.run.specs.declared.Turn.{Turn}
 use Rattle.run.specs.State.{Ready, itemsIn, Turns}
 use Rattle.run.specs.Start.{Begins}
 use Rattle.transcript.specs.Prescribed.{lineWith, lineOf}
 use Rattle.blocks.specs.declared.Page.{Page}
-
--- ---- words, each line set in by four spaces; the last line is closed where the words do not close it
-
-abbrev pub indentedFrom : (fresh : Bool) → List ℕ → List ℕ
-indentedFrom fresh [] = cond fresh [] lf
-indentedFrom fresh (b ∷ bs) = cond fresh (ascii "    ") [] ++ (b ∷ indentedFrom (eqb b 10) bs)
-
-unfoldable pub indented : List ℕ → List ℕ
-indented = indentedFrom true
+use Rattle.blocks.specs.Words.{indented}
 
 -- ---- 'the first line of each block': of a text the lines that begin with no space
 
@@ -46,7 +37,7 @@ heads = headsFrom start
 
 -- ---- the contracts
 
--- the contract of `note`: some words are written from a place on, so few that the page has room for them
+-- some words are written from a place on, so few that the page has room for them
 pub record Written (old : List ℕ) (place : ℕ) (new : List ℕ) (used : ℕ) : Type 0 where
   pub words : List ℕ
   pub few : length words ≤ 8192
@@ -66,7 +57,7 @@ pub record Put (t : Turn) (old : List ℕ) (place : ℕ) (new : List ℕ) (used 
   pub line : pen mid end ≡ puts (pen old place) (lineWith (t .item) (t .reply))
   pub below : Written mid end new used
 
--- blocks from a state to a later one, as the contract of `run::next` tells it: for each item its line and words below it, in whole lines. A block
+-- blocks from a state to a later one, as the contract of `session_turns::next` tells it: for each item its line and words below it, in whole lines. A block
 -- is begun while 24,511 bytes or fewer are used
 pub data Blocks (s : List ℕ) (w : Session) : Session → List ℕ → Type 0 where
   none : Blocks s w w []
@@ -85,7 +76,7 @@ pub record Told (s : List ℕ) (w : Session) (new : List ℕ) (p : Page) : Type 
 
 -- ---- all blocks
 
--- what was written so far, in order, as the contracts of `run::begin`, `preface` and `fill_page` tell it: each part is the used part of its page
+-- what was written so far, in order, as the contracts of `session_begun::begin`, `preface` and `fill_page` tell it: each part is the used part of its page
 pub data Explained (s : List ℕ) : Session → List (List ℕ) → Type 0 where
   begun : (w : Session) → Begins s w → (page : List ℕ) (used : ℕ) → Noted page used → Explained s w (take used page ∷ [])
   told : (w : Session) (parts : List (List ℕ)) → Explained s w parts

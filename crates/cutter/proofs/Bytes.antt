@@ -1,6 +1,6 @@
 -- The page's bytes, written out: a command, and one response cut.
 use Prim.Native.Nat.{ℕ}
-use mathlib.Core.Path.{_≡_, refl, _∙_}
+use mathlib.Core.Path.{_≡_, refl}
 use mathlib.Core.List.{List, [], _∷_, _++_}
 use lib.ListN.{length, replicate}
 use Rattle.tapa.specs.Said.{says, cutting, command, done}

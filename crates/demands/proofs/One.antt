@@ -18,6 +18,7 @@ use Rattle.slots.proofs.Once.{one-slot-part}
 use Rattle.joiner.proofs.Once as joiner
 use Rattle.run.proofs.Once as run
 use Rattle.pages.proofs.Once as pages
+use Rattle.forms.proofs.Once.{one-wording}
 use Rattle.hexes.proofs.Once as hexes
 use Rattle.demands.specs.One.{One, OneResult}
 
@@ -63,6 +64,7 @@ one-result = record {
   session-next = run.one-next;
   session-next-in = run.one-next-in;
   fill-page = λ input w before p q a b. pages.one-fill-page input w before a b p q;
+  wording = one-wording;
   hex-read = hexes.one-read;
   hex-write = hexes.one-write;
 }

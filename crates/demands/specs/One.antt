@@ -42,6 +42,8 @@ use Rattle.run.specs.declared.Went.{Went}
 use Rattle.run.specs.State.{Turns, turnOf}
 use Rattle.run.specs.Start as run
 use Rattle.pages.specs.Pages.{Paged}
+use Rattle.forms.specs.declared.Span.{Span}
+use Rattle.forms.specs.Forms.{Spans}
 use Rattle.hexes.specs.declared.Cursor as hexes
 use Rattle.hexes.specs.Reading.{Reads}
 use Rattle.hexes.specs.Writing.{Writes}
@@ -138,6 +140,8 @@ pub record OneResult : Type 0 where
       → Turns input w (turnOf x′ c′ n l′)
       → (x ≡ x′) × (l ≡ l′) × (c ≡ c′)
   pub fill-page : (input : List ℕ) (w : Session) (before : List ℕ) → OneWith (λ p after. Paged input w before after p)
+  -- forms: where a wording stands
+  pub wording : (sheet : List ℕ) (n : ℕ) → One (λ (p : Span). Spans sheet n p)
   -- hexes
   pub hex-read : (text before : List ℕ) → OneWith (λ r after. Reads text before after r)
   pub hex-write : (c : hexes.Cursor) (part before : List ℕ) → OneWith (λ r after. Writes c part before after r)

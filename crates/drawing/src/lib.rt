@@ -91,10 +91,10 @@ fn top_of(row: usize, total: usize) -> u16 {
 // row is shown there.
 fn column_of(router: Router, address: u16) -> usize {
     let cells = router.cells;
-    let wanted = tapa::handler(address) as u32;
+    let wanted = tapa::handler(address);
     let mut i = 0;
     while i < 16 {
-        if i < router.count && cells[i] / 2 == wanted {
+        if i < router.count && router_rows::address_at(&cells, i) == wanted {
             return i + 1;
         }
         i += 1;

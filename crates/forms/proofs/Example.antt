@@ -4,7 +4,7 @@ use mathlib.Core.Path.{_≡_, refl}
 use mathlib.Core.List.{List, [], _∷_, _++_}
 use lib.ListN.{length, replicate}
 use Rattle.text.specs.Text.{puts, ascii, decimalOf}
-use Rattle.forms.specs.Forms.{wordingOf, nibbed, engraved, isHole, partText, formText, formsText}
+use Rattle.forms.specs.Forms.{wordingOf, spanOf, nibbed, engraved, isHole, partText, formText, formsText}
 
 -- a wording, and then zeros to the end of its cell
 cell : List ℕ → List ℕ
@@ -25,6 +25,11 @@ missing-values = refl
 no-cell : formText sheet (2 ∷ []) ≡ []
 unfolding cell wordingOf
 no-cell = refl
+
+-- the wordings stand at 0 and at 128, and end after 3 and 8 bytes
+the-spans : (spanOf sheet 0 ≡ record { start = 0; end = 3 }) × (spanOf sheet 1 ≡ record { start = 128; end = 136 }) × (spanOf sheet 2 ≡ record { start = 0; end = 0 })
+unfolding cell spanOf
+the-spans = (refl, refl, refl)
 
 -- forms of 8 numbers each; the list has two, also where more are asked for
 two-forms : formsText sheet (0 ∷ replicate 7 0 ++ 1 ∷ 5 ∷ replicate 6 0) 3 ≡ ascii "pen5 0000 00 pen!"

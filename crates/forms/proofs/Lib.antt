@@ -4,3 +4,4 @@ pub mod Holes
 pub mod Filling
 pub mod Ink
 pub mod Example
+pub mod Once

@@ -10,7 +10,7 @@ use lib.ListN.{length, take, drop, getD, length-take, length-drop}
 use lib.Seq.{drop-cons, take-take}
 use borrow.Table.Steps.{cases}
 use borrow.Author.Tests.{lt-ltb, le-ltb, le-leb, lt-leb}
-use Rattle.forms.specs.Forms.{worded, cellFrom, endOf, wordingOf, Spans}
+use Rattle.forms.specs.Forms.{worded, cellFrom, wordingOf, endOf, spanOf, Spans}
 
 -- ---- the loop of `wording_end`: what is left of the wording at a place
 
@@ -63,8 +63,8 @@ end-text s start =
 -- ---- the returns of `wording`
 
 nowhere : (s : List ℕ) (n : ℕ) → (ltb n 512 && leb (n * 128 + 128) (length s)) ≡ false → Spans s n (record { start = 0; end = 0 })
-unfolding wordingOf
-nowhere s n e = record { text = rw e; order = omega arith; inside = omega arith; short = omega arith }
+unfolding wordingOf spanOf
+nowhere s n e = record { same = rw e; text = rw e; order = omega arith; inside = omega arith; short = omega arith }
 
 pub none-past : (s : List ℕ) (n : ℕ) → 512 ≤ n → Spans s n (record { start = 0; end = 0 })
 none-past s n h = nowhere s n (rw (le-ltb n 512 h))
@@ -73,10 +73,11 @@ pub none-short : (s : List ℕ) (n : ℕ) → length s < n * 128 + 128 → Spans
 none-short s n h = nowhere s n (cases (ltb n 512) (λ e. rw (e, lt-leb (n * 128 + 128) (length s) h)) (λ e. rw e))
 
 pub spans : (s : List ℕ) (n : ℕ) → n < 512 → n * 128 + 128 ≤ length s → (e : ℕ) → e ≡ endOf s (n * 128) → Spans s n (record { start = n * 128; end = e })
-unfolding wordingOf
+unfolding wordingOf spanOf
 spans s n h j e z =
     let t : (ltb n 512 && leb (n * 128 + 128) (length s)) ≡ true = rw (lt-ltb n 512 h, le-leb (n * 128 + 128) (length s) j) in
     record {
+      same = rw (t, z);
       text = rw (t, z) (end-text s (n * 128));
       order = omega arith;
       inside = omega (arith, end-inside s (n * 128) (omega arith));

@@ -102,7 +102,16 @@ formsText s l n = firstForms s l (cond (ltb n (length l / 8)) n (length l / 8))
 abbrev pub endOf : List ℕ → ℕ → ℕ
 endOf s start = start + length (worded (cellFrom s start))
 
+-- one that is not there stands at the sheet's start, and has no byte
+unfoldable pub spanOf : List ℕ → ℕ → Span
+spanOf s n =
+    cond (ltb n 512 && leb (n * 128 + 128) (length s))
+    (record { start = n * 128; end = endOf s (n * 128) })
+    (record { start = 0; end = 0 })
+
+-- the contract of `wording`: where it stands; and that the wording is what stands there
 pub record Spans (s : List ℕ) (n : ℕ) (p : Span) : Type 0 where
+  pub same : p ≡ spanOf s n
   pub text : take (p .end - p .start) (drop (p .start) s) ≡ wordingOf s n
   pub order : p .start ≤ p .end
   pub inside : p .end ≤ length s

@@ -13,6 +13,9 @@
 //
 // Who writes by forms alone writes wordings of the sheet, their holes filled, whatever the values are;
 // so every byte is a hex digit or stands in a wording: proofs/Ink.antt.
+//
+// Here are the definitions and their laws. Crate `show_sheet` writes a sheet and finds a wording in it,
+// crate `show_forms` writes the forms.
 
 // A cell that is being written, and the place of its next byte.
 pub struct Nib {

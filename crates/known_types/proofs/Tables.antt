@@ -4,7 +4,7 @@ use mathlib.Core.Path.{_≡_, sym}
 use mathlib.Core.Bool.{Bool, false, _||_, Bool·beq}
 use mathlib.Core.List.{List, [], _∷_}
 use native.Mathlib.Omega.{arith}
-use lib.Dec.{T, eqb, leb}
+use lib.Dec.{T, eqb}
 use borrow.Author.Tests.{lt-leb}
 use Rattle.lists.specs.Lists.{someOf}
 use Rattle.known_types.specs.Types.{common, own, known}

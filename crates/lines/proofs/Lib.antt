@@ -1,2 +1,3 @@
 pub mod Say
 pub mod Short
+pub mod Example

@@ -58,7 +58,7 @@ none-left n (l ∷ ls) =
 
 -- ---- all pages
 
--- the pages of a session so far, in order, as the contracts of `run::begin` and `fill_page` tell it: each is the used part of its buffer
+-- the pages of a session so far, in order, as the contracts of `session_begun::begin` and `fill_page` tell it: each is the used part of its buffer
 pub data Printed (s : List ℕ) : Session → List (List ℕ) → Type 0 where
   begun : (w : Session) → Begins s w → Printed s w []
   filled : (w : Session) (pages : List (List ℕ)) → Printed s w pages

@@ -70,7 +70,7 @@ module _ (old new t : List ℕ) (used : ℕ) (e : pen new used ≡ puts (pen old
 
 -- ---- a part, from the contracts of what it calls
 
--- forms, from the contract of `forms::put_list`
+-- forms, from the contract of `show_forms::put_list`
 pub drawn : (sheet old new list : List ℕ) (count used : ℕ) → pen new used ≡ puts (pen old 0) (formsText sheet list count) → Drawn sheet new used
 drawn sheet old new list count used e = record {
   all = formsText sheet list count;

@@ -39,7 +39,7 @@ pub record Added (sheet old : List ℕ) (place : ℕ) (new : List ℕ) (used : �
   pub room : length old ≡ 65536
   pub text : pen new used ≡ puts (pen old place) (formsText sheet list count)
 
--- rows from a state to a later one, as the contract of `run::next` tells it: for each item a list of forms. A row is begun while 32,768 bytes or
+-- rows from a state to a later one, as the contract of `session_turns::next` tells it: for each item a list of forms. A row is begun while 32,768 bytes or
 -- fewer are used, so only a row longer than half a page could be cut
 pub data Rows (s sheet : List ℕ) (w : Session) : Session → List ℕ → Type 0 where
   none : Rows s sheet w w []
@@ -58,7 +58,7 @@ pub record Part (s : List ℕ) (w : Session) (sheet new : List ℕ) (p : Page) :
   pub last : p .more ≡ false → itemsIn s (p .next) ≡ []
   pub ready : Ready (p .next)
 
--- what was written so far, in order, as the contracts of `run::begin`, `opening` and `fill_page` tell it: each part is the used part of its page
+-- what was written so far, in order, as the contracts of `session_begun::begin`, `opening` and `fill_page` tell it: each part is the used part of its page
 pub data Pictured (s sheet : List ℕ) : Session → List (List ℕ) → Type 0 where
   begun : (w : Session) → Begins s w → (page : List ℕ) (used : ℕ) → Drawn sheet page used → Pictured s sheet w (take used page ∷ [])
   added : (w : Session) (parts : List (List ℕ)) → Pictured s sheet w parts

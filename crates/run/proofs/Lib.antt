@@ -3,3 +3,4 @@ pub mod Turns
 pub mod Left
 pub mod Rows
 pub mod Once
+pub mod Example

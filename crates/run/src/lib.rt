@@ -1,16 +1,17 @@
 // The run of a session file: its steps with their outcomes, one at a time, and no text.
 //
-// `begin` reads the rows and starts a router over them. Each turn then hands out one item: the outcome
-// of a step, or how the run ends, or that nothing is left. The items that an input has are a definition
-// over its bytes, `runOf`; what is left of them in a state is `itemsIn`.
+// The items that an input has are a definition over its bytes, `runOf`; what is left of them in a state
+// is `itemsIn`. A state is a router and a small cursor beside it. Its law (`Ready`) speaks of the state
+// alone: any input may be given to any state.
 //
-// A state is a router and a small cursor beside it. A turn is `next_in`, over the router's arrays, which
-// a loop owns and lends, so that no message copies them; `next` is the same turn by value. The law of a
-// state (`Ready`) speaks of the state alone: any input may be given to any state.
+// Here are the types, the definitions and their laws. The code is in two rooms: `session_begun` reads the
+// rows and starts a router over them; `session_turns` hands out the items, one a turn.
 use router::Router;
 use rules::Outcome;
 use table::Rows;
 use tapa::Refusal;
+
+// ---- what is handed out
 
 // What a run counts of its outcomes.
 pub struct Tally {
@@ -39,6 +40,8 @@ pub enum Item {
     Nothing,
 }
 
+// ---- a state
+
 // What comes next: the step at the place, or an item that is settled.
 pub enum Stage {
     Steps,
@@ -60,6 +63,8 @@ pub struct Session {
     pub router: Router,
 }
 
+// ---- one turn
+
 // An item, the reply buffer after its call, whether something was handed out, and the next state.
 pub struct Turn {
     pub item: Item,
@@ -76,8 +81,6 @@ pub struct Went {
     pub cursor: Cursor,
     pub len: usize,
 }
-
-// ---- one item
 
 // What comes next, before the router is asked.
 pub enum Ahead {

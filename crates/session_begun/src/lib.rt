@@ -1,4 +1,8 @@
-// TODO: purpose of session_begun.
+// Session begun: the rows of a session file are read, and a router is started over them.
+//
+// The rows come first in the file. A broken one ends the run, and comes before the table is checked; a
+// table that is refused ends it too. Otherwise the steps are next, which crate `session_turns` takes one
+// by one. The state before the first item leaves all that the input has (crate `run`, `Begins`).
 use fields::NextRow;
 use run::Cursor;
 use run::Heading;
@@ -14,6 +18,9 @@ ghost use lib.ListN.{length};
 ghost use Rattle.table.specs.Table.{Held};
 ghost use Rattle.run.specs.Start.{headingOf, stageOf, startedBy, Begins};
 
+// ---- the rows
+
+// The rows of an input, up to the first field that is none.
 fn read_rows(input: &[u8]) -> Heading
     requires { ⌜ length (now input) ≤ 65536 ⌝ }
     ensures { λ r. ⌜ r ≡ headingOf (now (input .entry)) ⌝ }
@@ -51,6 +58,8 @@ fn read_rows(input: &[u8]) -> Heading
         }
     }
 }
+
+// ---- the state before the first item
 
 // A broken row comes before the table is checked.
 fn stage_after(torn: bool, number: usize, answer: Checked) -> Stage
@@ -91,7 +100,7 @@ fn started(heading: Heading) -> Session
     }
 }
 
-// The state before the first item.
+// Begins a session. An input that is too long has no rows.
 pub fn begin(input: &[u8]) -> Session
     ensures { λ r. ⌜ Begins (now (input .entry)) r ⌝ }
 {

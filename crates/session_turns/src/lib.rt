@@ -1,4 +1,9 @@
-// TODO: purpose of session_turns.
+// Session turns: a session hands out its items, one a turn: the outcome of a step, how the run ends, or
+// that nothing is left.
+//
+// A turn is `next_in`, over the router's arrays, which a loop owns and lends, so that no message copies
+// them; `next` is the same turn by value. What a turn hands out, and the state after it, are those of
+// crate `run` (`Turns`), where the law of a state stands too.
 use fields::NextStep;
 use routing::Step;
 use rules::Outcome;
@@ -74,6 +79,7 @@ fn stepped(cursor: Cursor, done: Step, reply: [u8; 10], end: usize) -> Went
     }
 }
 
+// A message is routed.
 fn on_message(
     cells: &mut [u32; 16],
     count: usize,
@@ -93,6 +99,7 @@ fn on_message(
     stepped(cursor, done, reply, end)
 }
 
+// A handler is given up.
 fn on_give_up(
     cells: &[u32; 16],
     count: usize,
@@ -111,6 +118,7 @@ fn on_give_up(
     stepped(cursor, done, reply, end)
 }
 
+// A handler was replaced. That has no reply.
 fn on_replaced(
     cells: &mut [u32; 16],
     count: usize,
@@ -181,6 +189,9 @@ fn ended(cursor: Cursor, item: Item, len: usize) -> Went
     }
 }
 
+// ---- one turn, in place
+
+// What comes next: an item that is settled, or what stands at the place.
 fn look_ahead(cursor: Cursor, input: &[u8]) -> Ahead
     ensures { λ r. ⌜ r ≡ aheadOf (now (input .entry)) cursor ⌝ }
 {
@@ -254,7 +265,7 @@ pub fn next_in(
     }
 }
 
-// ---- one item, by value
+// ---- one turn, by value
 
 // A session is its parts: who owns the arrays makes it of them.
 pub fn session_of(

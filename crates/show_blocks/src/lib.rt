@@ -1,9 +1,15 @@
-// TODO: purpose of show_blocks.
+// Show blocks: a session explained, page by page: a line of the transcript for each item, and the words
+// below it.
+//
+// The words are chosen in crate `telling` and set in by crate `show_notes`. A block is begun while the
+// page has room for the longest. What the pages then hold is in crate `blocks` (`Told`, `first-lines`).
 use blocks::Page;
 use run::Session;
 use run::Turn;
 ghost use Rattle.run.specs.State.{Ready};
 ghost use Rattle.blocks.specs.Blocks.{Noted, Put, Told};
+
+// ---- before the first block
 
 // What is said of the table, before the first block. The words are made in a buffer that is lent.
 pub fn preface(
@@ -17,6 +23,8 @@ pub fn preface(
     let said = telling::tell_rows(words, sheet, input);
     show_notes::note(page, 0, words, said)
 }
+
+// ---- the blocks
 
 // The block of a turn, from a place on: the line of its item, and the words below it. They are told
 // from the states before and after it.

@@ -1,10 +1,17 @@
-// TODO: purpose of show_forms.
+// Show forms: a form is written out, its wording with the holes filled, or a list of forms one after the
+// other.
+//
+// No byte is written but by a form, so what is written is wordings of the sheet and digits, whatever the
+// values are (crate `forms`, proofs/Ink.antt). The contracts are the equations of crate `text`.
 ghost use mathlib.Core.Path.{_≡_};
 ghost use Prim.Native.Nat.{_+_};
 ghost use lib.ListN.{getD};
 ghost use Rattle.text.specs.Text.{pen, puts};
 ghost use Rattle.forms.specs.Forms.{isHole, wordingOf, partText, formText, formsText};
 
+// ---- one part
+
+// The characters that are filled.
 fn is_hole(byte: u8) -> bool
     ensures { λ r. ⌜ r ≡ isHole byte ⌝ }
 {
@@ -37,7 +44,9 @@ fn put_part(page: &mut [u8], at: usize, sheet: &[u8], byte: u8, value: usize) ->
     }
 }
 
-// A value of a form.
+// ---- forms
+
+// A value of a form. One that is missing is 0.
 fn value_at(form: &[usize], k: usize) -> usize
     ensures { λ r. ⌜ r ≡ getD (now (form .entry)) k 0 ⌝ }
 {

@@ -1,9 +1,15 @@
-// TODO: purpose of show_picture.
+// Show picture: the parts of a session's picture, each onto a page: the file's beginning, the rows, a
+// page of them at a time, and the file's end.
+//
+// The forms are chosen in crate `drawing`, into a list that is lent, and written by crate `show_forms`. A
+// row is begun while half of the page is free. What the parts then hold is in crate `picture`.
 use picture::Page;
 use run::Session;
 use run::Turn;
 ghost use Rattle.run.specs.State.{Ready};
 ghost use Rattle.picture.specs.Picture.{Drawn, Added, Part};
+
+// ---- the rows
 
 // How many rows the picture of a session that was just begun has: one for each item.
 pub fn count_rows(session: Session, input: &[u8]) -> usize
@@ -17,19 +23,6 @@ pub fn count_rows(session: Session, input: &[u8]) -> usize
         }
         next = turn.next;
     }
-}
-
-// The beginning of the file. The forms are chosen in a list that is lent.
-pub fn opening(
-    total: usize,
-    sheet: &[u8; 65536],
-    page: &mut [u8; 65536],
-    list: &mut [usize; 2048],
-) -> usize
-    ensures { λ r. ⌜ Drawn (now (sheet .entry)) (now (page .exit)) r ⌝ }
-{
-    let begun = drawing::draw_opening(list, total);
-    show_forms::put_list(page, 0, sheet, list, begun)
 }
 
 // The row of a turn, from a place on. It is drawn from the states before and after it.
@@ -86,6 +79,21 @@ pub fn fill_page(
         more: true,
         next,
     }
+}
+
+// ---- the two ends
+
+// The beginning of the file. The forms are chosen in a list that is lent.
+pub fn opening(
+    total: usize,
+    sheet: &[u8; 65536],
+    page: &mut [u8; 65536],
+    list: &mut [usize; 2048],
+) -> usize
+    ensures { λ r. ⌜ Drawn (now (sheet .entry)) (now (page .exit)) r ⌝ }
+{
+    let begun = drawing::draw_opening(list, total);
+    show_forms::put_list(page, 0, sheet, list, begun)
 }
 
 // The end of the file.

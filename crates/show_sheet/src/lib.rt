@@ -1,4 +1,7 @@
-// TODO: purpose of show_sheet.
+// Show sheet: wordings are written into the cells of a sheet, and found there again.
+//
+// A program engraves its sheet once and then only reads it. What a sheet is, and where a wording stands
+// in it, is in crate `forms`.
 use forms::Nib;
 use forms::Span;
 ghost use mathlib.Core.Path.{_≡_};
@@ -6,6 +9,8 @@ ghost use Prim.Native.Nat.{_+_, _≤_};
 ghost use lib.ListN.{length};
 ghost use Rattle.text.specs.Text.{pen};
 ghost use Rattle.forms.specs.Forms.{Spans, endOf, stylus, nibbed, engraved};
+
+// ---- written
 
 // One byte of a wording that is being engraved: `|` goes on to the next cell.
 fn engrave_byte(sheet: &mut [u8], nib: Nib, byte: u8) -> Nib
@@ -41,6 +46,8 @@ pub fn engrave(sheet: &mut [u8], first: usize, wordings: &[u8])
     }
 }
 
+// ---- found
+
 // Where the wording that begins at a place ends.
 fn wording_end(sheet: &[u8], start: usize) -> usize
     requires { ⌜ start + 128 ≤ length (now sheet) ⌝ }
@@ -56,7 +63,7 @@ fn wording_end(sheet: &[u8], start: usize) -> usize
     i
 }
 
-// The wording of a cell.
+// The wording of a cell. One that is not there has no byte.
 pub fn wording(sheet: &[u8], n: usize) -> Span
     ensures { λ r. ⌜ Spans (now (sheet .entry)) n r ⌝ }
 {

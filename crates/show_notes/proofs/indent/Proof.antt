@@ -8,7 +8,7 @@ use native.Mathlib.Omega.{arith}
 use lib.ListN.{length, drop}
 use borrow.Author.Needs.{needs}
 use Rattle.text.specs.Text.{ascii, pen, puts}
-use Rattle.blocks.specs.Blocks.{indentedFrom, indented}
+use Rattle.blocks.specs.Words.{indentedFrom, indented}
 use Rattle.blocks.proofs.Indenting.{same-room, padded, unpadded, turn, closed, closes}
 use Rattle.show_notes.proofs.indent.Statement.{statement}
 use Rattle.show_notes.proofs.indent.Tie as tie

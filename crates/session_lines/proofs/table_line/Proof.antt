@@ -1,10 +1,10 @@
--- `lines::table_line` meets its contract: two calls that follow one another, and the refusal's number. Assumes nothing.
+-- `session_lines::table_line` meets its contract: two calls that follow one another, and the refusal's number. Assumes nothing.
 use Rattle.text.specs.Text.{ascii}
 use Rattle.text.proofs.Laws.{more}
 use Rattle.lines.proofs.Say.{count}
 use borrow.Author.Needs.{needs}
-use Rattle.lines.proofs.table_line.Statement.{statement}
-use Rattle.lines.proofs.table_line.Tie as tie
+use Rattle.session_lines.proofs.table_line.Statement.{statement}
+use Rattle.session_lines.proofs.table_line.Tie as tie
 
 returns : tie.Need-returns
 returns c = more _ _ _ _ _ (count _ _ (ascii "table refused ") _ _ (c .before .before .before .before .before .before .before .number .ensures) (c .before .before .before .before .before .before .put-number .ensures)) (c .before .before .put .ensures)

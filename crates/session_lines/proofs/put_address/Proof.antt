@@ -1,8 +1,8 @@
--- `lines::put_address` meets its contract: the word, and then four digits. Assumes nothing.
+-- `session_lines::put_address` meets its contract: the word, and then four digits. Assumes nothing.
 use Rattle.text.proofs.Laws.{more}
 use borrow.Author.Needs.{needs}
-use Rattle.lines.proofs.put_address.Statement.{statement}
-use Rattle.lines.proofs.put_address.Tie as tie
+use Rattle.session_lines.proofs.put_address.Statement.{statement}
+use Rattle.session_lines.proofs.put_address.Tie as tie
 
 returns : tie.Need-returns
 returns c = more _ _ _ _ _ (c .before .before .before .before .before .before .put-all .ensures) (c .before .before .put-word-hex .ensures)

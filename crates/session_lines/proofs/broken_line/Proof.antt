@@ -1,8 +1,8 @@
--- `lines::broken_line` meets its contract: two calls that follow one another. Assumes nothing.
+-- `session_lines::broken_line` meets its contract: two calls that follow one another. Assumes nothing.
 use Rattle.text.proofs.Laws.{more}
 use borrow.Author.Needs.{needs}
-use Rattle.lines.proofs.broken_line.Statement.{statement}
-use Rattle.lines.proofs.broken_line.Tie as tie
+use Rattle.session_lines.proofs.broken_line.Statement.{statement}
+use Rattle.session_lines.proofs.broken_line.Tie as tie
 
 returns : tie.Need-returns
 returns c = more _ _ _ _ _ (c .before .before .before .before .before .before .put-number .ensures) (c .before .before .put .ensures)

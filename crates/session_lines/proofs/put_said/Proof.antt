@@ -1,11 +1,11 @@
--- `lines::put_said` meets its contract: each arm is the case that the match found. Assumes nothing.
+-- `session_lines::put_said` meets its contract: each arm is the case that the match found. Assumes nothing.
 use Rattle.text.specs.Text.{ascii}
 use Rattle.message.specs.Message.{responseOf, messageOf}
 use Rattle.lines.specs.Lines.{wordOf, textOf}
 use Rattle.lines.proofs.Say.{say, count}
 use borrow.Author.Needs.{needs}
-use Rattle.lines.proofs.put_said.Statement.{statement}
-use Rattle.lines.proofs.put_said.Tie as tie
+use Rattle.session_lines.proofs.put_said.Statement.{statement}
+use Rattle.session_lines.proofs.put_said.Tie as tie
 
 returns : tie.Need-returns
 unfolding wordOf textOf responseOf messageOf

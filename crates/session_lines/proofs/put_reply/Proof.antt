@@ -1,8 +1,8 @@
--- `lines::put_reply` meets its contract: the word, and then two digits a byte. Assumes nothing.
+-- `session_lines::put_reply` meets its contract: the word, and then two digits a byte. Assumes nothing.
 use Rattle.text.proofs.Laws.{more}
 use borrow.Author.Needs.{needs}
-use Rattle.lines.proofs.put_reply.Statement.{statement}
-use Rattle.lines.proofs.put_reply.Tie as tie
+use Rattle.session_lines.proofs.put_reply.Statement.{statement}
+use Rattle.session_lines.proofs.put_reply.Tie as tie
 
 returns : tie.Need-returns
 returns c = more _ _ _ _ _ (c .before .before .before .before .before .before .before .put-all .ensures) (c .before .before .put-all-hex .ensures)
