@@ -176,16 +176,16 @@ pub fn put_came(line: &mut [u8], at: usize, came: Came) -> usize {
         Came::Plain(word) => put_word(line, at, word),
         Came::Number(word, n) => {
             let a = put_word(line, at, word);
-            session_lines::put_number(line, a, b" ", n)
+            lines::put_number(line, a, b" ", n)
         }
         Came::Numbers(word, n, m) => {
             let a = put_word(line, at, word);
-            let b = session_lines::put_number(line, a, b" ", n);
-            session_lines::put_number(line, b, b" ", m)
+            let b = lines::put_number(line, a, b" ", n);
+            lines::put_number(line, b, b" ", m)
         }
         Came::Address(word, address) => {
             let a = put_word(line, at, word);
-            session_lines::put_address(line, a, b" ", address)
+            lines::put_address(line, a, b" ", address)
         }
     }
 }
@@ -209,8 +209,8 @@ pub fn put_message(line: &mut [u8], message: &[u8]) -> usize {
     match message_reader::read(message) {
         Reading::Refused(refusal) => put_came(line, 0, refused(refusal)),
         Reading::Message(head) => {
-            let a = session_lines::put_address(line, 0, b" message ", head.destination);
-            let b = session_lines::put_address(line, a, b" ", head.source);
+            let a = lines::put_address(line, 0, b" message ", head.destination);
+            let b = lines::put_address(line, a, b" ", head.source);
             let c = put_byte(line, b, head.kind);
             let d = put_byte(line, c, head.thread);
             put_bytes(line, d, message_reader::data_part(message))

@@ -697,7 +697,7 @@ impl Bench {
     {
         if LONGEST < input.len() {
             return Turn {
-                length: session_lines::long_line(line, 0),
+                length: lines::long_line(line, 0),
                 more: false,
                 next: self,
             };

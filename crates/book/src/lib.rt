@@ -5,9 +5,9 @@
 // book and area together stand for a list of files (`viewOf`), and `Lawful` is what holds of them
 // in every store. `Shaped` is the part of that law that the book has alone.
 //
-// The code is in the rooms `store_kinds` (the table of files), `store_entries` (one entry more, less
-// or another) and `store_searches` (which entry it is, and which numbers are free). Each function
-// there is total: past the end there is an entry of zeros, and a change there is none.
+// The code is in the rooms `store_kinds` (the table of files) and `store_entries` (one entry more, less
+// or another, which entry it is, and which numbers are free). Each function there is total: past the end
+// there is an entry of zeros, and a change there is none.
 ghost use mathlib.Core.Path.{_≡_};
 
 // A file's row in the table: whether it is made, and the longest key and data that it takes.

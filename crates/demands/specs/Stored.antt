@@ -1,4 +1,4 @@
--- Demand 2, of the data store: a run as the contract of `store::handle` tells it. It begins with a fresh book and an area of the right length, and
+-- Demand 2, of the data store: a run as the contract of `store_answers::handle` tells it. It begins with a fresh book and an area of the right length, and
 -- goes on with messages, each on the book and the area that the last one left. The history lists the messages with the reply buffers that were
 -- lent, and what came of each.
 use Prim.Native.Nat.{ℕ}

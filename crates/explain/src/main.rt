@@ -7,7 +7,7 @@
 // whole session so.
 //
 // The sheet of sentences is written before anything is read. No contract can say what is read or
-// written; the last that is proved is that of crate `blocks`. `show` writes each part once, in order.
+// written; the last that is proved is that of crate `show_blocks`. `show` writes each part once, in order.
 
 // Prints the blocks of one input; false where they cannot be written.
 fn show(sheet: &[u8; 65536], input: &[u8], page: &mut [u8; 65536], words: &mut [u8; 8192]) -> bool {

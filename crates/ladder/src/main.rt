@@ -18,7 +18,7 @@ fn show_rows(
 ) -> bool {
     let mut session = session_begun::begin(input);
     loop {
-        let filled = show_picture::fill_page(session, total, input, sheet, page, list);
+        let filled = picture::fill_page(session, total, input, sheet, page, list);
         let used = filled.used;
         let all = &page[..];
         if !inputs::write(b"ladder", &all[..used]) {
@@ -35,15 +35,15 @@ fn show_rows(
 fn show(sheet: &[u8; 65536], input: &[u8]) {
     let mut page = io::large_buffer();
     let mut list = [0usize; 2048];
-    let total = show_picture::count_rows(session_begun::begin(input), input);
-    let begun = show_picture::opening(total, sheet, &mut page, &mut list);
+    let total = picture::count_rows(session_begun::begin(input), input);
+    let begun = picture::opening(total, sheet, &mut page, &mut list);
     if !inputs::write(b"ladder", &page[..begun]) {
         return;
     }
     if !show_rows(sheet, input, total, &mut page, &mut list) {
         return;
     }
-    let ended = show_picture::closing(sheet, &mut page, &mut list);
+    let ended = picture::closing(sheet, &mut page, &mut list);
     inputs::write(b"ladder", &page[..ended]);
 }
 

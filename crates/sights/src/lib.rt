@@ -63,10 +63,10 @@ fn other_pointer(b: Book, f: u16, o: u8, i: usize) -> u16
     ensures { λ r. ⌜ r ≡ otherAt o f (entriesOf b) i ⌝ }
 {
     if is_nextward(o) {
-        let z = store_searches::first_from(b, i + 1, f, 0);
+        let z = store_entries::first_from(b, i + 1, f, 0);
         return pointer_at(b, z);
     }
-    let z = store_searches::last_before(b, i, f);
+    let z = store_entries::last_before(b, i, f);
     pointer_at(b, z)
 }
 
@@ -79,12 +79,12 @@ fn seek(b: Book, f: u16, p: u16, o: u8) -> Found
         if p == 0 {
             return Found::Nothing;
         }
-        return store_searches::first_from(b, 0, f, p);
+        return store_entries::first_from(b, 0, f, p);
     }
     if o == 2 {
-        return store_searches::first_from(b, 0, f, 0);
+        return store_entries::first_from(b, 0, f, 0);
     }
-    store_searches::last_before(b, store_entries::held(b), f)
+    store_entries::last_before(b, store_entries::held(b), f)
 }
 
 pub fn get(b: Book, f: u16, p: u16, o: u8) -> Got
@@ -124,7 +124,7 @@ pub fn find(b: Book, area: &[u8], f: u16, key: &[u8]) -> Got
     if (k.keymax as usize) < key.len() {
         return none_got(tapa::SEARCH_KEY_TOO_LARGE);
     }
-    match store_searches::with_key(b, area, 0, f, key) {
+    match store_entries::with_key(b, area, 0, f, key) {
         Found::At(i) => {
             let x = store_entries::entry_at(b, i);
             Got {

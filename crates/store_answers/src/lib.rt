@@ -160,7 +160,7 @@ fn on_add(b: Book, area: &mut [u8], part: &[u8], body: &mut [u8]) -> Done
     }
     let f = tapa::word_at(part, 0);
     let end = 3 + tapa::byte_at(part, 2) as usize;
-    let added = store_adding::add(b, area, f, &part[3..end], &part[end + 2..]);
+    let added = record_commands::add(b, area, f, &part[3..end], &part[end + 2..]);
     code_behind(added.next, body, added.code, added.pointer)
 }
 
@@ -196,7 +196,7 @@ fn on_update(b: Book, area: &mut [u8], part: &[u8], body: &mut [u8]) -> Done
     let f = tapa::word_at(part, 0);
     let p = tapa::word_at(part, 2);
     let end = 5 + tapa::byte_at(part, 4) as usize;
-    let added = store_adding::update(b, area, f, p, &part[5..end], &part[end + 2..]);
+    let added = record_commands::update(b, area, f, p, &part[5..end], &part[end + 2..]);
     code_behind(added.next, body, added.code, added.pointer)
 }
 
@@ -220,7 +220,7 @@ fn on_delete(b: Book, area: &mut [u8], part: &[u8], body: &mut [u8]) -> Done
     if part.len() != 4 {
         return code_alone(b, body, tapa::UNSUPPORTED_OPERATION);
     }
-    let gone = store_deleting::delete(b, area, tapa::word_at(part, 0), tapa::word_at(part, 2));
+    let gone = record_commands::delete(b, area, tapa::word_at(part, 0), tapa::word_at(part, 2));
     code_alone(gone.next, body, gone.code)
 }
 
@@ -232,7 +232,7 @@ fn on_find_delete(b: Book, area: &mut [u8], part: &[u8], body: &mut [u8]) -> Don
     if !store_asked::has_key(part) {
         return code_alone(b, body, tapa::UNSUPPORTED_OPERATION);
     }
-    let gone = store_deleting::find_delete(b, area, tapa::word_at(part, 0), &part[3..]);
+    let gone = record_commands::find_delete(b, area, tapa::word_at(part, 0), &part[3..]);
     code_alone(gone.next, body, gone.code)
 }
 

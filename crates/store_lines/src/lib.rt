@@ -85,7 +85,7 @@ fn put_said(page: &mut [u8], at: usize, answer: Answer, reply: &[u8]) -> usize
 {
     match answer {
         Answer::Reply(n) => put_reply(page, at, reply, n),
-        Answer::Refused(refusal) => session_lines::put_number(
+        Answer::Refused(refusal) => lines::put_number(
             page,
             at,
             b" refused ",
@@ -145,13 +145,13 @@ pub fn fill_page(b: Book, area: &mut [u8], cursor: Cursor, input: &[u8], page: &
     let mut count = 0;
     let mut changing = false;
     if 65536 < input.len() {
-        used = session_lines::long_line(page, 0);
+        used = lines::long_line(page, 0);
         return page_of(book, at, number, used, 1, false);
     }
     while LINE <= page.len() - used {
         let step = next_at(input, at);
         if is_broken(step) {
-            used = session_lines::broken_line(page, used, number);
+            used = lines::broken_line(page, used, number);
             return page_of(book, at, number, used, count + 1, false);
         }
         let Next::Message { start, next } = step else {

@@ -15,8 +15,8 @@ pub fn put_line(line: &mut [u8], at: usize, item: Item, reply: &[u8; 10]) -> usi
     ensures { λ r. ⌜ pen (now (line .exit)) r ≡ puts (pen (now (line .entry)) at) (lineWith item (now (reply .entry))) ⌝ }
 {
     match item {
-        Item::Came { step, outcome } => session_lines::step_line(line, at, step, outcome, reply),
-        Item::Over(sums) => session_lines::totals_line(
+        Item::Came { step, outcome } => lines::step_line(line, at, step, outcome, reply),
+        Item::Over(sums) => lines::totals_line(
             line,
             at,
             sums.accepted,
@@ -25,9 +25,9 @@ pub fn put_line(line: &mut [u8], at: usize, item: Item, reply: &[u8; 10]) -> usi
             sums.waiting,
             sums.owing,
         ),
-        Item::Broken(number) => session_lines::broken_line(line, at, number),
-        Item::Refused(refusal) => session_lines::table_line(line, at, refusal),
-        Item::TooLong => session_lines::long_line(line, at),
+        Item::Broken(number) => lines::broken_line(line, at, number),
+        Item::Refused(refusal) => lines::table_line(line, at, refusal),
+        Item::TooLong => lines::long_line(line, at),
         Item::Nothing => at,
     }
 }
