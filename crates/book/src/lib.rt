@@ -5,7 +5,7 @@
 // book and area together stand for a list of files (`viewOf`), and `Lawful` is what holds of them
 // in every store. `Shaped` is the part of that law that the book has alone.
 //
-// The code is in the rooms `store_kinds` (the table of files) and `store_entries` (one entry more, less
+// The code, but for `wide`, is in the rooms `store_kinds` (the table of files) and `store_entries` (one entry more, less
 // or another, which entry it is, and which numbers are free). Each function there is total: past the end
 // there is an entry of zeros, and a change there is none.
 ghost use mathlib.Core.Path.{_≡_};

@@ -1,4 +1,4 @@
-// What a queue of events holds (section 13): looked up in its ring, and nothing is changed.
+// What a queue of events holds (section 13): a fresh one, and looks into its ring, which change nothing.
 //
 // The array is lent, and the stretch says which of its places hold events. What the answers are is
 // said of the list of events: rooms `queue` and `events`. The changes are room `event_changes`'s.

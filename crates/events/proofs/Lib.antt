@@ -1,3 +1,4 @@
+pub mod Bytes
 pub mod Handling
 pub mod Judging
 pub mod Once

@@ -10,7 +10,6 @@
 ghost use mathlib.Core.Path.{_≡_};
 ghost use Prim.Native.Nat.{_+_, _<_, _≤_};
 ghost use lib.ListN.{length, take, drop};
-ghost use Rattle.tapa.specs.Numbers.{wordAt};
 ghost use Rattle.fields.specs.Places.{readAt, rowAt, stepAt, rowPlaced, stepPlaced};
 ghost use Rattle.fields.specs.Fields.{rowOf, stepOf};
 

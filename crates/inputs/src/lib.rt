@@ -9,7 +9,8 @@
 // has opened descriptor 3 for it to tell of failures, a digit each. Without that argument it
 // writes nothing there.
 //
-// No contract can say what is read or written, so those here speak of lengths only.
+// No contract can say what is read or written, so those here speak of lengths only, and of the number of
+// the next argument, which grows.
 use libc::STDERR_FILENO;
 use libc::STDIN_FILENO;
 use libc::STDOUT_FILENO;
@@ -185,7 +186,7 @@ pub fn read(program: &[u8], what: &[u8], i: usize, buf: &mut [u8]) -> Got
     got
 }
 
-// The next input that can be read, from argument i on: how many bytes of the buffer are its, and the
+// The next input that can be read, from an argument on: how many bytes of the buffer are its, and the
 // number of the argument after it. Where none is left, `some` is false.
 pub struct Came {
     pub length: usize,

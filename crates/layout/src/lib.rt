@@ -22,7 +22,6 @@ ghost use Rattle.book.specs.Book.{kindOf, noKind};
 ghost use Rattle.layout.specs.Judged.{clashes, countIn, entriesIn, entryIn, fits, kindFits, rowFits, slotsIn, sound, sumFits, tableFits, tableIn, twinFrom, verdictOf};
 ghost use Rattle.layout.specs.Layout.{sizeOf};
 ghost use Rattle.lists.specs.Least.{same};
-ghost use Rattle.tapa.specs.Numbers.{wordAt};
 
 // What some bytes are: the image of a store; no image; one of another version; one that is cut short
 // or has bytes behind its end; one whose checksum is not that of its bytes; one that holds what no

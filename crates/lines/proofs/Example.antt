@@ -10,9 +10,9 @@ use Rattle.rules.specs.Said.{saidOutcome}
 use Rattle.message.specs.Message.{responseOf, messageOf}
 use Rattle.lines.specs.Lines.{wordOf, textOf, stepLine, totalsLine, brokenLine, tableLine, longLine}
 
--- what stands in the reply buffer: '0202' turns '0100' back on thread 3, with code 'FFF4'
+-- what stands in the reply buffer: '0202' turns '0100' back on thread 3, with code 'FFF5'
 abbrev reply : List ℕ
-reply = 0x01 ∷ 0x00 ∷ 0x02 ∷ 0x02 ∷ 0xFF ∷ 0x03 ∷ 0x00 ∷ 0x02 ∷ 0xFF ∷ 0xF4 ∷ []
+reply = 0x01 ∷ 0x00 ∷ 0x02 ∷ 0x02 ∷ 0xFF ∷ 0x03 ∷ 0x00 ∷ 0x02 ∷ 0xFF ∷ 0xF5 ∷ []
 
 abbrev line : ℕ → Outcome → List ℕ
 line k o = stepLine k (saidOutcome o) reply
@@ -23,8 +23,8 @@ pub a-step : (line 1 (Passed 0x0100 0x0202 0x45 3) ≡ ascii "1 passed 0202\n")
     × (line 23 (Answered 0x0202 0x0100 3 0xFF24) ≡ ascii "23 answered 0100\n")
     × (line 4 (Swallowed 0x0202 3) ≡ ascii "4 swallowed\n")
     × (line 5 Event ≡ ascii "5 event\n")
-    × (line 6 (Turned 0x0100 0x0202 3 0xFFF4) ≡ ascii "6 turned 01000202FF030002FFF4\n")
-    × (line 7 (Given 0x0100 0x0202 3) ≡ ascii "7 given 01000202FF030002FFF4\n")
+    × (line 6 (Turned 0x0100 0x0202 3 0xFFF5) ≡ ascii "6 turned 01000202FF030002FFF5\n")
+    × (line 7 (Given 0x0100 0x0202 3) ≡ ascii "7 given 01000202FF030002FFF5\n")
     × (line 8 (Reset 0x0202) ≡ ascii "8 reset\n")
 unfolding wordOf textOf responseOf messageOf decimalOf
 a-step = (refl, refl, refl, refl, refl, refl, refl)

@@ -38,8 +38,9 @@ pub leaves : (leafOf 0x0301 3 three ≡ At 1) × (leafOf 0x0282 3 three ≡ Hold
 unfolding leafOf handlerOf
 leaves = (refl, refl, refl, refl, refl)
 
--- who asks and who is asked stands in the tree; who only owes does not, and another thread has none
+-- who asks and who is asked stands in the tree; who only owes does not; another thread has none, nor has one that only owes
 pub standings : (standingOf 3 0x0100 three ≡ Within) × (standingOf 3 0x0202 three ≡ Within) × (standingOf 3 0x0301 three ≡ Within)
     × (standingOf 3 0x0003 three ≡ Outside) × (standingOf 2 0x0100 three ≡ Empty)
+    × (standingOf 3 0x0100 (command 0x0100 0x0003 true ∷ []) ≡ Empty)
 unfolding standingOf handlerOf
-standings = (refl, refl, refl, refl, refl)
+standings = (refl, refl, refl, refl, refl, refl)

@@ -1,7 +1,7 @@
 -- The table Search Type Coding, written out: which search types are known, and what each of them looks at.
 use Prim.Native.Nat.{ℕ}
 use mathlib.Core.Path.{_≡_, refl}
-use mathlib.Core.Bool.{true, false, _&&_}
+use mathlib.Core.Bool.{_&&_}
 use lib.Dec.{eqb, leb}
 use Rattle.queue.specs.declared.Event.{Event}
 use Rattle.queue.specs.declared.Search.{Search}

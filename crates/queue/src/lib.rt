@@ -7,8 +7,8 @@
 // A queue is a value. The rooms `event_ring` (look-ups) and `event_changes` work in place on its
 // array, which the caller lends, so that no call copies it; the caller keeps the stretch that they
 // hand back. What they promise speaks of the list of events (`eventsIn`) and of where the ring then
-// begins. How an event is packed, and at which place it stands, is said in specs/Places.antt, and
-// nobody else has to know it.
+// begins. How an event is packed, and at which place it stands, is said in specs/Places.antt; who calls
+// these rooms need not know it.
 //
 // Here are the definitions, their laws, and what concerns one event or one place.
 ghost use mathlib.Core.Path.{_≡_};

@@ -1,7 +1,7 @@
 // Routing one message: what a call does to the arrays of a state, in place.
 //
 // Here stand the definitions that the code is held to, which are the rules' own `judge..` and
-// `applied` said of lent arrays, and the laws of each step. The code stands in three rooms, split as
+// `applied` said of lent arrays, and the laws of each step. The code, but for `refuse`, stands in three rooms, split as
 // the rules are: router_response (type 'FF'), router_command (the common checks, an event, any other
 // type) and router_give_up (give up, replaced). `ruling` decides, `router_walks` finds, and they do
 // what follows. `router` lends them the arrays of its state.

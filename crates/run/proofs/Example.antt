@@ -9,11 +9,9 @@ use Rattle.tapa.specs.declared.Refusal.the-variants.{Repeat}
 use Rattle.known_types.specs.Types.{own, common}
 use Rattle.message.specs.Message.{readOf, partOf, codeOf}
 use Rattle.table.specs.Table.{shaped, judgeTable}
-use Rattle.rules.specs.Judge.{late, reply, judgeResponse, busy, judgeCommand, judgeKind, judgeRead, judgeMessage, yields, judgeGiveUp, judgeReplaced}
-use Rattle.rules.specs.Apply.{answeredRows}
+use Rattle.rules.specs.Judge.{busy, judgeCommand, judgeKind, judgeRead, judgeMessage, yields, judgeGiveUp, judgeReplaced}
 use Rattle.rules.specs.declared.Outcome.the-variants.{Passed, Given, Reset}
 use Rattle.fields.specs.Fields.{fileOf, rowOf, stepOf, scriptOf}
-use Rattle.run.specs.declared.Item.{Item}
 use Rattle.run.specs.declared.Item.the-variants.{Came, Over, Broken, Refused, TooLong}
 use Rattle.run.specs.Run.{noReply, scriptItems, runOf}
 

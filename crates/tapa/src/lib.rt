@@ -4,7 +4,8 @@
 // enciphered response; the handler is the address with that bit cleared. "Handler" always means
 // the cleared form, "exact" always means all sixteen bits.
 //
-// A refusal has a name here and a number on the page; `number` goes from the one to the other.
+// A refusal has a name here and a number on the page; `number` goes from the one to the other. Numbers in
+// bytes have the high byte first, and bytes past an end are 0: `pair`, `byte_at`, `word_at`.
 ghost use mathlib.Core.Path.{_≡_};
 ghost use Prim.Native.Nat.{_+_, _*_};
 ghost use lib.ListN.{getD};
@@ -166,7 +167,7 @@ pub fn byte_at(s: &[u8], i: usize) -> u8
     if i < s.len() { s[i] } else { 0 }
 }
 
-// The number whose two bytes stand from a place on.
+// The number whose two bytes stand from a place on, the high one first; a byte past the end is 0.
 pub fn word_at(s: &[u8], i: usize) -> u16
     ensures { λ r. ⌜ r ≡ wordAt (now (s .entry)) i ⌝ }
 {
