@@ -3,7 +3,7 @@ use Prim.Native.Nat.{ℕ}
 use mathlib.Core.List.{_++_, List, [], _∷_}
 use mathlib.Core.Path.{refl, _≡_}
 use lib.ListN.{replicate}
-use Rattle.files.specs.Asked.{Done, createShape, doneBy, getShape, idsShape, keyShape, recordShape}
+use Rattle.files.specs.Asked.{Done, createShape, doneBy, getShape, idsShape, keyShape, markShape, recordShape}
 use Rattle.files.specs.Files.{File, Record}
 use Rattle.lists.specs.Least.{least}
 use Rattle.tapa.specs.Codes.{addRecord, clearFile, createFile, deleteFile, deleteRecord, findAndDelete, findRecord, getRecord, updateRecord}
@@ -220,7 +220,12 @@ pub create-too-large : doneBy createFile (1 ∷ 0 ∷ 0 ∷ 129 ∷ []) [] ≡ c
 unfolding doneBy createShape least
 create-too-large = refl
 
--- Open Handler is 'FFFB'
-pub open-store : doneBy 0xF0 [] [] ≡ comes (0xFF ∷ 0xFB ∷ []) []
-unfolding doneBy
+-- ---- the till opens the store before the day, and closes it behind it: '0000', and nothing changes
+
+pub open-store : doneBy 0xF0 [] (texts (opening ∷ [])) ≡ comes (0 ∷ 0 ∷ []) (texts (opening ∷ []))
+unfolding doneBy markShape
 open-store = refl
+
+pub close-store : doneBy 0xF1 [] (texts (opening ∷ [])) ≡ comes (0 ∷ 0 ∷ []) (texts (opening ∷ []))
+unfolding doneBy markShape
+close-store = refl

@@ -8,7 +8,7 @@ use native.Mathlib.Omega.{arith}
 use lib.Dec.{eqb, leb, ltb}
 use lib.ListN.{getD, length, length-map}
 use borrow.Author.Tests.{eqb-true, leb-false, lt-ltb, ltb-false}
-use Rattle.files.specs.Asked.{Done, coded, commands, createShape, dataFrom, doneBy, fileIn, getShape, idsOf, idsShape, keyFrom, keyShape, onAdd, onClear, onCreate, onDelete, onDeleteFiles, onFind, onFindDelete, onGet, onUpdate, recordShape, shaped}
+use Rattle.files.specs.Asked.{Done, coded, commands, createShape, dataFrom, doneBy, fileIn, getShape, idsOf, idsShape, keyFrom, keyShape, markShape, onAdd, onClear, onCreate, onDelete, onDeleteFiles, onFind, onFindDelete, onGet, onMark, onUpdate, recordShape, shaped}
 use Rattle.files.specs.Files.{File, Record, add, addCode, addCodeIn, change, clear, clearCode, create, createAll, createCode, createOne, delete, deleteCode, deleteFiles, deleteFilesCode, emptyFile, findDelete, findDeleteCode, freeId, freePointer, held, insert, keyed, look, notOf, renewed, sought, update, updateCode, updateCodeIn, withRecord, withRecords}
 use Rattle.files.specs.Sound.{Ranged, Sound, SoundFile, Within, called, pointed}
 use Rattle.lists.proofs.ByPlace.{all-keep, all-snoc, count-snoc}
@@ -237,7 +237,13 @@ sound-done kind part s w =
                     done (keyShape part) (onFindDelete part s) (sound-find-delete s (fileIn part) (keyFrom part 2) w),
                     (
                       done (eqb (length part) 2) (onClear part s) (sound-clear s (fileIn part) w),
-                      tt,
+                      (
+                        done (markShape part) (onMark s) w,
+                        (
+                          done (markShape part) (onMark s) w,
+                          tt,
+                        ),
+                      ),
                     ),
                   ),
                 ),

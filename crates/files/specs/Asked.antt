@@ -7,7 +7,7 @@ use lib.Dec.{eqb, leb, ltb}
 use lib.ListN.{drop, getD, length, take}
 use Rattle.files.specs.Files.{File, Record, Sight, add, addCode, addPointer, clear, clearCode, create, createCode, delete, deleteCode, deleteFiles, deleteFilesCode, find, findDelete, findDeleteCode, get, newIds, update, updateCode, updatePointer}
 use Rattle.lists.specs.Lists.{checks}
-use Rattle.tapa.specs.Codes.{addRecord, clearFile, createFile, deleteFile, deleteRecord, findAndDelete, findRecord, getRecord, successful, unsupportedOperation, updateRecord}
+use Rattle.tapa.specs.Codes.{addRecord, clearFile, closeHandler, createFile, deleteFile, deleteRecord, findAndDelete, findRecord, getRecord, openHandler, successful, unsupportedOperation, updateRecord}
 use Rattle.tapa.specs.Numbers.{twoBytes, wordAt}
 
 -- ---- the fields of a data part
@@ -62,6 +62,10 @@ getShape part = eqb (length part) 5 && leb (getD part 4 0) 3
 -- Tables 137 and 143: L_DATA is 3 and LEN_SKEY
 unfoldable pub keyShape : List ℕ → Bool
 keyShape part = eqb (length part) (3 + keyLen part 2)
+
+-- Tables 10 and 13: L_DATA is '0000'
+unfoldable pub markShape : List ℕ → Bool
+markShape part = eqb (length part) 0
 
 -- ---- what it comes to: the response's data, and the files that the store then holds
 
@@ -132,7 +136,11 @@ onClear part s = record { part = twoBytes (clearCode s (fileIn part)); files = c
 abbrev pub shaped : Bool → Done → List File → Done
 shaped right d s = cond right d (coded unsupportedOperation s)
 
--- Table 149, in its order
+-- 'Open Handler and Close Handler without data are answered '0000', and nothing changes in the store'
+abbrev pub onMark : List File → Done
+onMark s = coded successful s
+
+-- Table 149, in its order; then what the store recognises of the common commands (11.1)
 abbrev pub commands : ℕ → List ℕ → List File → List (Bool × Done)
 commands kind part s =
     (eqb kind createFile, shaped (createShape part) (onCreate part s) s)
@@ -144,8 +152,10 @@ commands kind part s =
     ∷ (eqb kind deleteRecord, shaped (eqb (length part) 4) (onDelete part s) s)
     ∷ (eqb kind findAndDelete, shaped (keyShape part) (onFindDelete part s) s)
     ∷ (eqb kind clearFile, shaped (eqb (length part) 2) (onClear part s) s)
+    ∷ (eqb kind openHandler, shaped (markShape part) (onMark s) s)
+    ∷ (eqb kind closeHandler, shaped (markShape part) (onMark s) s)
     ∷ []
 
--- 'A type outside 90 to 98 gets 'FFFB'.'
+-- 'Every other type outside 90 to 98 gets 'FFFB'.'
 unfoldable pub doneBy : ℕ → List ℕ → List File → Done
 doneBy kind part s = checks (commands kind part s) (coded unsupportedOperation s)

@@ -14,15 +14,15 @@ use Rattle.file_commands.proofs.Creates.{create-right, create-room}
 use Rattle.file_commands.specs.Erasing.{codeOfCreate, createIds, createOf, padded}
 use Rattle.file_commands.specs.declared.Erased.{Erased}
 use Rattle.file_commands.specs.declared.Made.{Made}
-use Rattle.files.specs.Asked.{carrying, dataFrom, getShape, keyFrom, keyLen, keyShape, recLen, recordShape, seenPart, wordsOf}
+use Rattle.files.specs.Asked.{carrying, dataFrom, getShape, keyFrom, keyLen, keyShape, markShape, recLen, recordShape, seenPart, wordsOf}
 use Rattle.lists.proofs.Tests.{and-yes, split}
 use Rattle.record_commands.specs.declared.Added.{Added}
 use Rattle.record_commands.specs.declared.Deleted.{Deleted}
 use Rattle.sights.specs.Sights.{sightOf}
 use Rattle.sights.specs.declared.Got.{Got}
-use Rattle.store.specs.Store.{Deed, Did, Says, addDeed, addedDeed, clearDeed, codeDeed, createDeed, deedIf, deedOf, deleteDeed, deleteFilesDeed, deletedDeed, erasedDeed, findDeed, findDeleteDeed, getDeed, shownDeed, updateDeed}
+use Rattle.store.specs.Store.{Deed, Did, Says, addDeed, addedDeed, clearDeed, codeDeed, createDeed, deedIf, deedOf, deleteDeed, deleteFilesDeed, deletedDeed, erasedDeed, findDeed, findDeleteDeed, getDeed, markDeed, shownDeed, updateDeed}
 use Rattle.store.specs.declared.Done.{Done}
-use Rattle.tapa.specs.Codes.{addRecord, clearFile, createFile, deleteFile, deleteRecord, findAndDelete, findRecord, getRecord, successful, unsupportedOperation, updateRecord}
+use Rattle.tapa.specs.Codes.{addRecord, clearFile, closeHandler, createFile, deleteFile, deleteRecord, findAndDelete, findRecord, getRecord, openHandler, successful, unsupportedOperation, updateRecord}
 use Rattle.tapa.specs.Numbers.{twoBytes, wordAt}
 
 -- ---- a wrong shape
@@ -127,6 +127,16 @@ module _ (part : List ℕ) where
     pub data-part : (n : ℕ) → n ≡ at + 3 + keyLen part at → take (length part - n) (drop n part) ≡ dataFrom part at
     data-part n h = take-all (length part - n) (drop n part) (omega (arith, length-drop n part)) ∙ ap (λ (m : ℕ). drop m part) h
 
+-- ---- Open Handler and Close Handler: no data
+
+pub mark-long : (part : List ℕ) → (length part ≡ 0 → ⊥) → markShape part ≡ false
+unfolding markShape
+mark-long part h = ne-eqb (length part) 0 h
+
+pub mark-none : (part : List ℕ) → length part ≡ 0 → markShape part ≡ true
+unfolding markShape
+mark-none part h = eq-eqb (length part) 0 h
+
 -- ---- which command it is
 
 module _ (part : List ℕ) (b : Book) (area : List ℕ) where
@@ -166,10 +176,19 @@ module _ (part : List ℕ) (b : Book) (area : List ℕ) where
   unfolding deedOf
   by-clear kind e = rw e
 
-  pub by-other : (kind : ℕ) → (kind ≡ createFile → ⊥) → (kind ≡ deleteFile → ⊥) → (kind ≡ addRecord → ⊥) → (kind ≡ getRecord → ⊥) → (kind ≡ updateRecord → ⊥)
-      → (kind ≡ findRecord → ⊥) → (kind ≡ deleteRecord → ⊥) → (kind ≡ findAndDelete → ⊥) → (kind ≡ clearFile → ⊥) → deedOf kind part b area ≡ codeDeed unsupportedOperation b area
+  pub by-open : (kind : ℕ) → kind ≡ openHandler → deedOf kind part b area ≡ markDeed part b area
   unfolding deedOf
-  by-other kind h0 h1 h2 h3 h4 h5 h6 h7 h8 =
+  by-open kind e = rw e
+
+  pub by-close : (kind : ℕ) → kind ≡ closeHandler → deedOf kind part b area ≡ markDeed part b area
+  unfolding deedOf
+  by-close kind e = rw e
+
+  pub by-other : (kind : ℕ) → (kind ≡ createFile → ⊥) → (kind ≡ deleteFile → ⊥) → (kind ≡ addRecord → ⊥) → (kind ≡ getRecord → ⊥) → (kind ≡ updateRecord → ⊥)
+      → (kind ≡ findRecord → ⊥) → (kind ≡ deleteRecord → ⊥) → (kind ≡ findAndDelete → ⊥) → (kind ≡ clearFile → ⊥)
+      → (kind ≡ openHandler → ⊥) → (kind ≡ closeHandler → ⊥) → deedOf kind part b area ≡ codeDeed unsupportedOperation b area
+  unfolding deedOf
+  by-other kind h0 h1 h2 h3 h4 h5 h6 h7 h8 h9 h10 =
       rw (
         ne-eqb kind createFile h0,
         ne-eqb kind deleteFile h1,
@@ -180,6 +199,8 @@ module _ (part : List ℕ) (b : Book) (area : List ℕ) where
         ne-eqb kind deleteRecord h6,
         ne-eqb kind findAndDelete h7,
         ne-eqb kind clearFile h8,
+        ne-eqb kind openHandler h9,
+        ne-eqb kind closeHandler h10,
       )
 
 pub as-deed : (d e : Deed) (before after area : List ℕ) (r : Done) → d ≡ e → Did e before after area r → Did d before after area r

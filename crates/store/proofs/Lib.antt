@@ -4,3 +4,4 @@ pub mod Handling
 pub mod Right
 pub mod Kept
 pub mod Once
+pub mod Bytes

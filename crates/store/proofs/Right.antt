@@ -15,7 +15,7 @@ use Rattle.file_commands.proofs.Creates.{CreateRight, create-right}
 use Rattle.file_commands.proofs.Erases.{clear-right, delete-files-right}
 use Rattle.file_commands.specs.Erasing.{createOf, padded, rightShape}
 use Rattle.file_commands.specs.declared.Made.{Made}
-use Rattle.files.specs.Asked.{Done, carrying, coded, createShape, dataFrom, doneBy, fileIn, getShape, idsOf, idsShape, keyFrom, keyShape, onAdd, onClear, onCreate, onDelete, onDeleteFiles, onFind, onFindDelete, onGet, onUpdate, recordShape, seenPart, shaped, wordsOf}
+use Rattle.files.specs.Asked.{Done, carrying, coded, createShape, dataFrom, doneBy, fileIn, getShape, idsOf, idsShape, keyFrom, keyShape, markShape, onAdd, onClear, onCreate, onDelete, onDeleteFiles, onFind, onFindDelete, onGet, onMark, onUpdate, recordShape, seenPart, shaped, wordsOf}
 use Rattle.files.specs.Files.{File, createCode, createOne, newIds}
 use Rattle.lists.proofs.Tests.{checks-twin, split}
 use Rattle.lists.specs.Lists.{Bytes}
@@ -26,10 +26,10 @@ use Rattle.record_commands.proofs.Updates.{update-right}
 use Rattle.replies.specs.Replies.{answerOf, replied}
 use Rattle.sights.proofs.Sights.{find-right, get-right}
 use Rattle.store.specs.Plain.{Told, tellsAfter, toldOf}
-use Rattle.store.specs.Store.{Deed, Result, addDeed, checked, clearDeed, codeDeed, createDeed, deedIf, deedOf, deleteDeed, deleteFilesDeed, findDeed, findDeleteDeed, getDeed, handled, madeDeed, obeys, updateDeed}
+use Rattle.store.specs.Store.{Deed, Result, addDeed, checked, clearDeed, codeDeed, createDeed, deedIf, deedOf, deleteDeed, deleteFilesDeed, findDeed, findDeleteDeed, getDeed, handled, madeDeed, markDeed, obeys, updateDeed}
 use Rattle.replies.specs.declared.Checked.{Checked}
 use Rattle.replies.specs.declared.Checked.the-variants.{Failed, Passed}
-use Rattle.tapa.specs.Codes.{addRecord, clearFile, createFile, deleteFile, deleteRecord, findAndDelete, findRecord, getRecord, successful, unsupportedOperation, updateRecord}
+use Rattle.tapa.specs.Codes.{addRecord, clearFile, closeHandler, createFile, deleteFile, deleteRecord, findAndDelete, findRecord, getRecord, openHandler, successful, unsupportedOperation, updateRecord}
 use Rattle.tapa.specs.Numbers.{twoBytes, wordAt}
 
 -- a byte of the data part is one of the message
@@ -156,6 +156,11 @@ module _ (b : Book) (area : List ℕ) (law : Lawful b area) where
         let r = clear-right b area law (fileIn part) in
         by-shape (eqb (length part) 2) _ _ (λ t. record { part = ap twoBytes (r .code); files = r .view; lawful = r .lawful })
 
+    -- ---- Open Handler and Close Handler
+
+    pub mark-does : Right (markDeed part b area) (shaped (markShape part) (onMark s) s)
+    mark-does = by-shape (markShape part) _ _ (λ t. record { part = refl; files = refl; lawful = law })
+
     -- ---- every command, of any type and with any data
 
     abbrev twins : ℕ → List (Bool × (Deed × Done))
@@ -169,13 +174,15 @@ module _ (b : Book) (area : List ℕ) (law : Lawful b area) where
         ∷ (eqb kind deleteRecord, (deleteDeed part b area, shaped (eqb (length part) 4) (onDelete part s) s))
         ∷ (eqb kind findAndDelete, (findDeleteDeed part b area, shaped (keyShape part) (onFindDelete part s) s))
         ∷ (eqb kind clearFile, (clearDeed part b area, shaped (eqb (length part) 2) (onClear part s) s))
+        ∷ (eqb kind openHandler, (markDeed part b area, shaped (markShape part) (onMark s) s))
+        ∷ (eqb kind closeHandler, (markDeed part b area, shaped (markShape part) (onMark s) s))
         ∷ []
 
     pub does-right : (kind : ℕ) → getD part 1 0 ≤ 255 → Right (deedOf kind part b area) (doneBy kind part s)
     unfolding deedOf doneBy
     does-right kind byte =
         checks-twin Right (twins kind) (codeDeed unsupportedOperation b area) (coded unsupportedOperation s)
-        (create-does byte, (delete-files-does, (add-does, (get-does, (update-does, (find-does, (delete-does, (find-delete-does, (clear-does, tt)))))))))
+        (create-does byte, (delete-files-does, (add-does, (get-does, (update-does, (find-does, (delete-does, (find-delete-does, (clear-does, (mark-does, (mark-does, tt)))))))))))
         (record { part = refl; files = refl; lawful = law })
 
   -- ---- a whole message

@@ -11,7 +11,7 @@ use Rattle.book.specs.declared.Book.{Book}
 use Rattle.file_commands.specs.Erasing.{clearArea, clearOf, createOf, deleteFilesArea, deleteFilesOf}
 use Rattle.file_commands.specs.declared.Erased.{Erased}
 use Rattle.file_commands.specs.declared.Made.{Made}
-use Rattle.files.specs.Asked.{carrying, dataFrom, fileIn, getShape, idsOf, idsShape, keyFrom, keyShape, recordShape, seenPart, wordsOf}
+use Rattle.files.specs.Asked.{carrying, dataFrom, fileIn, getShape, idsOf, idsShape, keyFrom, keyShape, markShape, recordShape, seenPart, wordsOf}
 use Rattle.lists.specs.Lists.{checks, onto}
 use Rattle.message.specs.Message.{partOf}
 use Rattle.message.specs.declared.Head.{Head}
@@ -29,7 +29,7 @@ use Rattle.sights.specs.declared.Got.{Got}
 use Rattle.store.specs.declared.Done.{Done}
 use Rattle.store.specs.declared.Handled.{Handled}
 use Rattle.tapa.specs.Address.{categoryOf, dataStore}
-use Rattle.tapa.specs.Codes.{addRecord, clearFile, createFile, deleteFile, deleteRecord, findAndDelete, findRecord, getRecord, response, successful, unsupportedOperation, updateRecord}
+use Rattle.tapa.specs.Codes.{addRecord, clearFile, closeHandler, createFile, deleteFile, deleteRecord, findAndDelete, findRecord, getRecord, openHandler, response, successful, unsupportedOperation, updateRecord}
 use Rattle.tapa.specs.Numbers.{twoBytes, wordAt}
 use Rattle.tapa.specs.declared.Refusal.{Refusal}
 
@@ -109,7 +109,11 @@ findDeleteDeed part b area =
 abbrev pub clearDeed : List ℕ → Book → List ℕ → Deed
 clearDeed part b area = deedIf (eqb (length part) 2) (erasedDeed (clearOf b (fileIn part)) (clearArea b area (fileIn part))) b area
 
--- 'A type outside 90 to 98 gets 'FFFB'.'
+-- 'Open Handler and Close Handler without data are answered '0000', and nothing changes in the store'
+abbrev pub markDeed : List ℕ → Book → List ℕ → Deed
+markDeed part b area = deedIf (markShape part) (codeDeed successful b area) b area
+
+-- 'Every other type outside 90 to 98 gets 'FFFB'.'
 unfoldable pub deedOf : ℕ → List ℕ → Book → List ℕ → Deed
 deedOf kind part b area =
     checks
@@ -122,6 +126,8 @@ deedOf kind part b area =
     ∷ (eqb kind deleteRecord, deleteDeed part b area)
     ∷ (eqb kind findAndDelete, findDeleteDeed part b area)
     ∷ (eqb kind clearFile, clearDeed part b area)
+    ∷ (eqb kind openHandler, markDeed part b area)
+    ∷ (eqb kind closeHandler, markDeed part b area)
     ∷ [])
     (codeDeed unsupportedOperation b area)
 

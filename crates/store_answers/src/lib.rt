@@ -20,7 +20,7 @@ ghost use Rattle.book.specs.Book.{Lawful, entriesOf, recOf};
 ghost use Rattle.files.specs.Asked.{carrying, seenPart, sightBytes, wordsOf};
 ghost use Rattle.lists.specs.Lists.{over};
 ghost use Rattle.sights.specs.Sights.{sightOf};
-ghost use Rattle.store.specs.Store.{Did, Handling, Says, Shows, addDeed, clearDeed, createDeed, deedOf, deleteDeed, deleteFilesDeed, findDeed, findDeleteDeed, getDeed, handled, updateDeed};
+ghost use Rattle.store.specs.Store.{Did, Handling, Says, Shows, addDeed, clearDeed, createDeed, deedOf, deleteDeed, deleteFilesDeed, findDeed, findDeleteDeed, getDeed, handled, markDeed, updateDeed};
 ghost use Rattle.tapa.specs.Numbers.{twoBytes};
 
 // ---- the writers of the response's data
@@ -248,6 +248,20 @@ fn on_clear(b: Book, area: &mut [u8], part: &[u8], body: &mut [u8]) -> Done
     code_alone(gone.next, body, gone.code)
 }
 
+// ---- what the store recognises beside them
+
+// Open Handler and Close Handler: the router keeps the mark, so there is nothing to do.
+fn on_mark(b: Book, area: &[u8], part: &[u8], body: &mut [u8]) -> Done
+    requires { ⌜ Lawful b (now area) ⌝ }
+    requires { ⌜ 390 ≤ length (now body) ⌝ }
+    ensures { λ r. ⌜ Did (markDeed (now (part .entry)) b (now (area .entry))) (now (body .entry)) (now (body .exit)) (now (area .entry)) r ⌝ }
+{
+    if part.len() != 0 {
+        return code_alone(b, body, tapa::UNSUPPORTED_OPERATION);
+    }
+    code_alone(b, body, tapa::SUCCESSFUL)
+}
+
 // ---- all of it
 
 // Does what a type and its data ask; a type that is not the store's is a wrong shape.
@@ -266,6 +280,8 @@ fn obey(kind: u8, b: Book, area: &mut [u8], part: &[u8], body: &mut [u8]) -> Don
         tapa::DELETE_RECORD => on_delete(b, area, part, body),
         tapa::FIND_AND_DELETE => on_find_delete(b, area, part, body),
         tapa::CLEAR_FILE => on_clear(b, area, part, body),
+        tapa::OPEN_HANDLER => on_mark(b, area, part, body),
+        tapa::CLOSE_HANDLER => on_mark(b, area, part, body),
         _ => code_alone(b, body, tapa::UNSUPPORTED_OPERATION),
     }
 }

@@ -1,8 +1,8 @@
 -- `store_answers::obey` meets its contract: an arm for each command. Assumes the law.
 use mathlib.Core.Path.{refl}
 use borrow.Author.Needs.{needs}
-use Rattle.store.proofs.Deeds.{as-deed, by-add, by-clear, by-create, by-delete, by-delete-files, by-find, by-find-delete, by-get, by-other, by-update}
-use Rattle.store.specs.Store.{addDeed, clearDeed, codeDeed, createDeed, deleteDeed, deleteFilesDeed, findDeed, findDeleteDeed, getDeed, updateDeed}
+use Rattle.store.proofs.Deeds.{as-deed, by-add, by-clear, by-close, by-create, by-delete, by-delete-files, by-find, by-find-delete, by-get, by-open, by-other, by-update}
+use Rattle.store.specs.Store.{addDeed, clearDeed, codeDeed, createDeed, deleteDeed, deleteFilesDeed, findDeed, findDeleteDeed, getDeed, markDeed, updateDeed}
 use Rattle.tapa.specs.Codes.{unsupportedOperation}
 use Rattle.store_answers.proofs.obey.Statement.{statement}
 use Rattle.store_answers.proofs.obey.Tie as tie
@@ -54,13 +54,23 @@ returns-9 c =
 
 returns-10 : tie.Need-returns-10
 returns-10 c =
+    let a = c .before .before .before .before .before .before .before .before .before .args in
+    as-deed _ (markDeed (a .part .now) (a .b) (a .area .now)) _ _ _ _ (by-open (a .part .now) (a .b) (a .area .now) (a .kind) (c .before .before .before .before .before .match .keys10)) (c .before .before .on-mark .ensures)
+
+returns-11 : tie.Need-returns-11
+returns-11 c =
+    let a = c .before .before .before .before .before .before .before .before .before .args in
+    as-deed _ (markDeed (a .part .now) (a .b) (a .area .now)) _ _ _ _ (by-close (a .part .now) (a .b) (a .area .now) (a .kind) (c .before .before .before .before .before .match .keys11)) (c .before .before .on-mark2 .ensures)
+
+returns-12 : tie.Need-returns-12
+returns-12 c =
     let a = c .before .before .before .before .before .before .before .before .args in
     let r = c .before .before .before .before .match .rest in
     as-deed _ (codeDeed unsupportedOperation (a .b) (a .area .now)) _ _ _ _
-    (by-other (a .part .now) (a .b) (a .area .now) (a .kind) (r .0 .0 .0 .0 .0 .0 .0 .0 .1) (r .0 .0 .0 .0 .0 .0 .0 .1) (r .0 .0 .0 .0 .0 .0 .1) (r .0 .0 .0 .0 .0 .1) (r .0 .0 .0 .0 .1) (r .0 .0 .0 .1) (r .0 .0 .1) (r .0 .1) (r .1))
+    (by-other (a .part .now) (a .b) (a .area .now) (a .kind) (r .0 .0 .0 .0 .0 .0 .0 .0 .0 .0 .1) (r .0 .0 .0 .0 .0 .0 .0 .0 .0 .1) (r .0 .0 .0 .0 .0 .0 .0 .0 .1) (r .0 .0 .0 .0 .0 .0 .0 .1) (r .0 .0 .0 .0 .0 .0 .1) (r .0 .0 .0 .0 .0 .1) (r .0 .0 .0 .0 .1) (r .0 .0 .0 .1) (r .0 .0 .1) (r .0 .1) (r .1))
     (record { says = c .before .before .code-alone .ensures; area′ = refl; law = c .before .before .before .before .before .before .before .before .pre .0 })
 
 pub obey-spec : {M : Type 1} → statement M
 obey-spec =
     tie.close
-    (tie.spec (λ c κs. search needs) (λ c κs. search needs) (λ c κs. search needs) (λ c κs. search needs) (λ c κs. search needs) (λ c κs. search needs) (λ c κs. search needs) (λ c κs. search needs) (λ c κs. search needs) (λ c κs. search needs) (λ c. search needs) (λ c. search needs) returns (λ c. search needs) (λ c. search needs) returns-2 (λ c. search needs) (λ c. search needs) returns-3 (λ c. search needs) (λ c. search needs) returns-4 (λ c. search needs) (λ c. search needs) returns-5 (λ c. search needs) (λ c. search needs) returns-6 (λ c. search needs) (λ c. search needs) returns-7 (λ c. search needs) (λ c. search needs) returns-8 (λ c. search needs) (λ c. search needs) returns-9 (λ c. search needs) returns-10)
+    (tie.spec (λ c κs. search needs) (λ c κs. search needs) (λ c κs. search needs) (λ c κs. search needs) (λ c κs. search needs) (λ c κs. search needs) (λ c κs. search needs) (λ c κs. search needs) (λ c κs. search needs) (λ c κs. search needs) (λ c κs. search needs) (λ c κs. search needs) (λ c. search needs) (λ c. search needs) returns (λ c. search needs) (λ c. search needs) returns-2 (λ c. search needs) (λ c. search needs) returns-3 (λ c. search needs) (λ c. search needs) returns-4 (λ c. search needs) (λ c. search needs) returns-5 (λ c. search needs) (λ c. search needs) returns-6 (λ c. search needs) (λ c. search needs) returns-7 (λ c. search needs) (λ c. search needs) returns-8 (λ c. search needs) (λ c. search needs) returns-9 (λ c. search needs) (λ c. search needs) returns-10 (λ c. search needs) (λ c. search needs) returns-11 (λ c. search needs) returns-12)
