@@ -237,7 +237,7 @@ impl Parts {
         requires { ⌜ Right self ⌝ }
         ensures { λ r. ⌜ Right r ⌝ }
     {
-        let rows = router_rows::with_row(self.rows, Row { address, opened });
+        let rows = table::with_row(self.rows, Row { address, opened });
         let mut next = self;
         next.rows = rows;
         next
@@ -251,7 +251,7 @@ impl Parts {
         let begun = start::start_with(self.rows);
         let answer = begun.answer;
         let router = begun.router;
-        let rows = router_rows::no_rows();
+        let rows = table::no_rows();
         let came = answers::of_checked(answer);
         let mut next = self;
         next.rows = rows;
@@ -689,10 +689,10 @@ impl Bench {
     }
 
     // The field at the place, and its line at the start of the buffer. `work` is the joiner's
-    // buffer and `area` the data store's: the same two for every field of an input.
-    pub fn turn(self, input: &[u8], work: &mut [u8], area: &mut [u8], line: &mut [u8]) -> Turn
+    // buffer and `area` the data store's: the same two for every field of an input. The line's buffer
+    // has 8,192 bytes: every field's number fits, and a longer line is cut at the end.
+    pub fn turn(self, input: &[u8], work: &mut [u8], area: &mut [u8], line: &mut [u8; 8192]) -> Turn
         requires { ⌜ Sound self (now area) ⌝ }
-        requires { ⌜ 64 ≤ length (now line) ⌝ }
         ensures { λ r. ⌜ Turns (now (input .entry)) self (now (line .exit)) (now (area .exit)) r ⌝ }
     {
         if LONGEST < input.len() {
@@ -737,7 +737,7 @@ pub fn fresh() -> Bench
 {
     let queue = event_ring::fresh();
     let joiner = psam_pieces::fresh();
-    let rows = router_rows::no_rows();
+    let rows = table::no_rows();
     let begun = start::start_with(rows);
     let router = begun.router;
     let book = store_entries::fresh();

@@ -9,9 +9,9 @@ use lib.Dec.{eqb, leb, ltb}
 use lib.ListN.{getD, length, length-set, set}
 use lib.Seq.{getD-set-other}
 use borrow.Author.Tests.{eq-eqb, eqb-false, eqb-true, le-leb, le-ltb, lt-leb, lt-ltb, ltb-false, ltb-true, ne-eqb}
-use Rattle.book.proofs.Kept.{table-shaped}
+use Rattle.book.proofs.Kept.{table-shaped, with-file-shaped}
 use Rattle.book.proofs.Tables.{free-at}
-use Rattle.book.specs.Book.{Fits, Lawful, createdAt, entriesOf, fileOf, filesFrom, freeKind, isMade, kind, kindOf, noKind, oneMore, viewOf}
+use Rattle.book.specs.Book.{Fits, Lawful, Shaped, createdAt, entriesOf, fileOf, filesFrom, freeKind, isMade, kind, kindOf, noKind, oneMore, viewOf}
 use Rattle.book.specs.declared.Book.{Book}
 use Rattle.book.specs.declared.Entry.{Entry}
 use Rattle.book.specs.declared.Kind.{Kind}
@@ -239,3 +239,12 @@ module _ (b : Book) (area : List ℕ) (law : Lawful b area) (n k r : ℕ) (hk : 
 
   pub create-right : CreateRight
   create-right = split (eqb (codeOfCreate b n r) successful) (λ t. done (eqb-true (codeOfCreate b n r) successful t)) refused
+
+-- ---- of the book alone: `create` requires that it is shaped, and hands that back
+
+books-shaped : (n k r : ℕ) (b : Book) → Shaped b → Shaped (createBook n k r b)
+books-shaped zero k r b h = h
+books-shaped (suc n) k r b h = books-shaped n k r (oneMore b k r .next) (with-file-shaped b h k r)
+
+pub create-shaped : (b : Book) (n k r : ℕ) → Shaped b → Shaped (createOf b n k r .next)
+create-shaped b n k r h = split (eqb (codeOfCreate b n r) successful) (λ t. rw t (books-shaped n k r b h)) (λ t. rw t h)

@@ -1,8 +1,9 @@
 -- The passed commands that are not done with: what their list is. The words on one of them are passed on from room place.
 use Prim.Native.Nat.{ℕ}
 use mathlib.Core.Bool.{Bool, cond}
-use mathlib.Core.List.{List}
-use lib.ListN.{getD}
+use mathlib.Core.List.{List, _∷_}
+use lib.Dec.{ltb}
+use lib.ListN.{getD, length}
 use Rattle.lists.specs.declared.Found.{Found}
 use Rattle.lists.specs.declared.Found.the-variants as found
 use Rattle.lists.specs.Lists.{someOf, find, keep}
@@ -36,6 +37,11 @@ waits ps = keep isOpen ps
 
 abbrev pub owings : List Place → List Place
 owings ps = keep isOwed ps
+
+-- one place more, the newest, while fewer than 48 are there; else the places as they were. 'waits and owings cannot pass 12 + 8 x 4 = 44, and
+-- the list has 48 places': the law of a router's state gives the room (rules, Bound), so there it is always the one more
+unfoldable pub pushed : Place → List Place → List Place
+pushed p ps = cond (ltb (length ps) 48) (p ∷ ps) ps
 
 -- ---- a thread's tree
 

@@ -1,56 +1,29 @@
 -- From a step in place to the state by value; and that a state is known by its view.
-use Prim.Native.Nat.{ℕ, _<_}
+use Prim.Native.Nat.{ℕ}
 use mathlib.Core.Path.{_≡_, ap}
 use mathlib.Core.List.{List}
 use lib.ListN.{length}
-use Rattle.table.specs.declared.Row.{Row}
 use Rattle.table.proofs.Once as table
-use Rattle.place.specs.declared.Place.{Place}
 use Rattle.places.proofs.Once as held
-use Rattle.places.proofs.Points.{len}
 use Rattle.rules.specs.View.{View}
-use Rattle.rules.specs.declared.Outcome.{Outcome}
 use Rattle.rules.specs.Judge.{Call, giveUp, judge, judgeGiveUp}
-use Rattle.rules.specs.Apply.{applied}
-use Rattle.rules.proofs.Kept as kept
-use Rattle.rules.proofs.Bound.{room-left}
 use Rattle.rules.proofs.Untouched.{give-up-rows}
 use Rattle.routing.specs.declared.Step.{Step}
-use Rattle.ruling.specs.Ruling.{heldView}
 use Rattle.routing.specs.Steps.{Writing, Moving, Stepping}
+use Rattle.routing.proofs.Law.{next-view, law-kept}
 use Rattle.router.specs.declared.Router.{Router}
 use Rattle.router.specs.Router.{viewOf, Lawful, Routing, Replacing, stateOf, routedTo}
-
-views : (v w : View) → v .rows ≡ w .rows → v .places ≡ w .places → v ≡ w
-views v w p q = go (v .rows) (w .rows) (v .places) (w .places) p q
-  where
-    go : (a b : List Row) (c d : List Place) → a ≡ b → c ≡ d → _≡_ {A = View} (record { rows = a; places = c }) (record { rows = b; places = d })
-    go a b c d p q = cc
-
--- the law gives room for one place more, on which routing a message in place rests
-pub has-room : (r : Router) → Lawful r → r .len < 48
-has-room r g = rw (len (r .list) (r .len)) at (room-left (viewOf r) (g .table) (g .conduct))
 
 module _ (r : Router) (g : Lawful r) (room : ℕ) (call : Call) where
   pub replaces : (c l : List ℕ) (s : Step)
       → Moving (judge (viewOf r) room call) (viewOf r) c (r .count) l s
       → Replacing (judge (viewOf r) room call) r
       (routedTo s c (r .count) l)
-  replaces c l s x =
-      let o : Outcome = judge (viewOf r) room call in
-      let e : heldView c (r .count) l (s .len) ≡ applied o (viewOf r) =
-      views (heldView c (r .count) l (s .len)) (applied o (viewOf r)) (x .table .holds) (x .placing .places .holds) in
-      let f = kept.lawful-call (viewOf r) room call (record { table = g .table; conduct = g .conduct }) in
-      record {
-        outcome = x .placing .outcome;
-        view = e;
-        law = record {
-          held = x .placing .places .law;
-          column = x .table .law;
-          table = rw (x .table .holds) (f .table);
-          conduct = rw e (f .conduct);
-        };
-      }
+  replaces c l s x = record {
+    outcome = x .placing .outcome;
+    view = next-view (r .cells) (r .count) (r .list) (r .len) g room call c l s x;
+    law = law-kept (r .cells) (r .count) (r .list) (r .len) g room call c l s x;
+  }
 
   pub routes : (c l before after : List ℕ) (s : Step)
       → Stepping (judge (viewOf r) room call) (viewOf r) c (r .count) l before after s

@@ -3,28 +3,22 @@ use Prim.Native.Nat.{ℕ}
 use mathlib.Core.Path.{_≡_}
 use mathlib.Core.List.{List}
 use lib.ListN.{length}
-use Rattle.table.specs.Table.{Column, Proper}
-use Rattle.places.specs.Places as places
 use Rattle.rules.specs.View.{View}
 use Rattle.rules.specs.declared.Outcome.{Outcome}
 use Rattle.rules.specs.Judge.{judgeMessage, judgeGiveUp, judgeReplaced}
 use Rattle.rules.specs.Apply.{applied, written}
-use Rattle.rules.specs.Conduct.{Conduct}
 use Rattle.ruling.specs.Ruling.{heldView}
 use Rattle.routing.specs.declared.Step.{Step}
+use Rattle.routing.specs.Law as routing
 use Rattle.router.specs.declared.Router.{Router}
 use Rattle.router.specs.declared.Routed.{Routed}
 
 abbrev pub viewOf : Router → View
 viewOf r = heldView (r .cells) (r .count) (r .list) (r .len)
 
--- the law of every state that a start or a call hands back: the arrays hold what the view says and nothing else, the table was accepted
--- (or has no rows, after a refused start), and the places keep the conduct
-pub record Lawful (r : Router) : Type 0 where
-  pub held : places.Lawful (r .list) (r .len)
-  pub column : Column (r .cells) (r .count)
-  pub table : Proper (viewOf r .rows)
-  pub conduct : Conduct (viewOf r)
+-- the law of every state that a start or a call hands back: that of its parts
+abbrev pub Lawful : Router → Type 0
+Lawful r = routing.Lawful (r .cells) (r .count) (r .list) (r .len)
 
 -- 'The router takes its state and hands the next one back.' With the outcome o: the next view, its law, and the whole reply buffer
 pub record Routing (o : Outcome) (r : Router) (before after : List ℕ) (out : Routed) : Type 0 where

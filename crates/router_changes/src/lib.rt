@@ -4,18 +4,18 @@
 // A change works in place on the lent list and keeps its law (`Lawful`, room places). Where the number
 // of places may change, it answers the next one.
 use place::Place;
-ghost use mathlib.Core.List.{_∷_};
-ghost use Prim.Native.Nat.{_<_};
 ghost use Rattle.lists.specs.Lists.{keep, withoutAt, changedAt};
-ghost use Rattle.places.specs.Places.{placesOf, Lawful, Becomes, owing, notOwedBy};
+ghost use Rattle.places.specs.Places.{placesOf, Lawful, Becomes, pushed, owing, notOwedBy};
 
-// One place more, the newest. It is asked only where there is room, so no place is dropped. The law of
-// a router's state gives the room: at most 44 places are in use (rules, Bound).
+// One place more, the newest. A full list stays as it is: no place is dropped. The law of a router's
+// state gives the room: at most 44 places are in use (rules, Bound).
 pub fn push(list: &mut [u64; 48], n: usize, place: Place) -> usize
     requires { ⌜ Lawful (now list) n ⌝ }
-    requires { ⌜ n < 48 ⌝ }
-    ensures { λ r. ⌜ Becomes (now (list .exit)) r (place ∷ placesOf (now (list .entry)) n) ⌝ }
+    ensures { λ r. ⌜ Becomes (now (list .exit)) r (pushed place (placesOf (now (list .entry)) n)) ⌝ }
 {
+    if 48 <= n {
+        return n;
+    }
     list[n] = router_tests::pack_of(place);
     n + 1
 }

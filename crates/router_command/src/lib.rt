@@ -2,7 +2,8 @@
 //
 // A response goes to router_response, an event changes nothing. Any other type is a command: `ruling`
 // says whether it is turned back, with a response in the reply buffer, or passed and becomes a wait.
-// What is done is defined in `routing` (`OnMessage`).
+// What is done is defined in `routing` (`OnMessage`), and so is the law of a router's state, which a
+// message keeps.
 use message::Head;
 use message::Reading;
 use place::Place;
@@ -20,6 +21,7 @@ ghost use Rattle.rules.specs.Judge.{turned, judgeCommand, judgeKind};
 ghost use Rattle.rules.specs.Apply.{place};
 ghost use Rattle.ruling.specs.Ruling.{viewIn, ruled};
 ghost use Rattle.ruling.specs.declared.Ruling.the-variants.{On};
+ghost use Rattle.routing.specs.Law.{Lawful};
 ghost use Rattle.routing.specs.Steps.{Wrote, Stepped, OnMessage};
 
 // ---- Any other type
@@ -60,7 +62,7 @@ fn wait_of(head: Head) -> Place
 }
 
 // Does what the rules say: a response into the reply buffer, or one place more. No rule tests for
-// room, so it is required here.
+// room, so it is required here; `on_message` has it from the law.
 fn on_command(
     cells: &[u32; 16],
     count: usize,
@@ -127,10 +129,9 @@ pub fn on_message(
     message: &[u8],
     reply: &mut [u8],
 ) -> Step
-    requires { ⌜ places.Lawful (now list) len ⌝ }
-    requires { ⌜ len < 48 ⌝ }
-    requires { ⌜ Column (now cells) count ⌝ }
+    requires { ⌜ Lawful (now cells) count (now list) len ⌝ }
     ensures { λ s. ⌜ OnMessage cells count list len message reply s ⌝ }
+    ensures { λ s. ⌜ Lawful (now (cells .exit)) count (now (list .exit)) (s .len) ⌝ }
 {
     if reply.len() < 10 {
         return routing::refuse(Refusal::BufferTooSmall, len);

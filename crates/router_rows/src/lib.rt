@@ -1,48 +1,12 @@
-// The rows of a table, as code: held by value, looked up, and marked as open or closed.
+// The rows of a table, as code: looked up, and marked as open or closed.
 //
 // A row is one number in a column of 16 (room table says which). A look-up takes the column of any
 // table of at most 16 rows. A mark keeps the law of the column, and with the rows the law leaves one
 // column possible (table, proofs/Once.antt).
 use table::Row;
-use table::Rows;
 ghost use mathlib.Core.Path.{_≡_};
 ghost use Prim.Native.Nat.{_≤_};
-ghost use Rattle.table.specs.Table.{pack, addressAt, listed, openedAt, Column, Opened, rowsOf, noRows, withRow};
-
-// ---- rows by value
-
-// A row as a number.
-fn pack_of(row: Row) -> u32
-    ensures { λ r. ⌜ r ≡ pack row ⌝ }
-{
-    let twice = row.address as u32 * 2;
-    if row.opened { twice + 1 } else { twice }
-}
-
-pub fn no_rows() -> Rows
-    ensures { λ r. ⌜ r ≡ noRows ⌝ }
-{
-    Rows {
-        cells: [0; 16],
-        count: 0,
-        more: false,
-    }
-}
-
-// One row more. A seventeenth is only noted.
-pub fn with_row(rows: Rows, row: Row) -> Rows
-    ensures { λ r. ⌜ r ≡ withRow rows row ⌝ }
-{
-    let at = rows.count;
-    let mut next = rows;
-    if at < 16 {
-        next.cells[at] = pack_of(row);
-        next.count = at + 1;
-    } else {
-        next.more = true;
-    }
-    next
-}
+ghost use Rattle.table.specs.Table.{addressAt, listed, openedAt, Column, Opened, rowsOf};
 
 // ---- a row by its number
 
@@ -104,7 +68,7 @@ pub fn set_open(cells: &mut [u32; 16], count: usize, handler: u16, to: bool)
     while 0 < i {
         i -= 1;
         if cells[i] / 2 == wanted {
-            cells[i] = pack_of(Row {
+            cells[i] = table::pack_of(Row {
                 address: handler,
                 opened: to,
             });

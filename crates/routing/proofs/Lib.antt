@@ -1,4 +1,5 @@
 pub mod Steps
+pub mod Law
 pub mod Responses
 pub mod Commands
 pub mod Messages

@@ -6,9 +6,9 @@
 // type) and router_give_up (give up, replaced). `ruling` decides, `router_walks` finds, and they do
 // what follows. `router` lends them the arrays of its state.
 //
-// A command that is passed becomes a place, so what works in place on a message rests on room for one
-// place more (`len < 48`). The law of a router's state gives it: at most 44 places are in use (rules,
-// Bound; router, `has-room`).
+// The law of a router's state stands here too, said of the arrays that hold it (`Lawful`): a step keeps
+// it. A command that is passed becomes a place, and the law gives the room: at most 44 places are in use,
+// and the list has 48 (proofs/Law.antt).
 use rules::Outcome;
 use tapa::Refusal;
 ghost use mathlib.Core.Path.{_≡_};

@@ -25,7 +25,7 @@ fn read_rows(input: &[u8]) -> Heading
     requires { ⌜ length (now input) ≤ 65536 ⌝ }
     ensures { λ r. ⌜ r ≡ headingOf (now (input .entry)) ⌝ }
 {
-    let mut rows = router_rows::no_rows();
+    let mut rows = table::no_rows();
     let mut at = 0;
     let mut number = 1;
     loop {
@@ -35,7 +35,7 @@ fn read_rows(input: &[u8]) -> Heading
                 opened,
                 next,
             } => {
-                rows = router_rows::with_row(rows, Row { address, opened });
+                rows = table::with_row(rows, Row { address, opened });
                 at = next;
                 number += 1;
             }

@@ -6,16 +6,26 @@
 //
 // `read_rows` and `set_up` are thin, since a slice of structs is proved by hand. All work is in
 // functions over the column.
+//
+// What set-up hands back is made here alone, since a struct's fields are private to its crate: so every
+// one there is keeps its law (`Settled`).
 use table::Checked;
 use table::Row;
 use table::Rows;
-use table::SetUp;
 use tapa::Refusal;
 ghost use mathlib.Core.Path.{_≡_};
 ghost use Prim.Native.Nat.{_≤_, _<_};
 ghost use lib.ListN.{length, getD, take};
 ghost use Rattle.lists.specs.Lists.{someOf, count as countOf};
-ghost use Rattle.table.specs.Table.{Narrow, rowsOf, shaped, misshapen, repeats, isMulti, judgeRows, setUpWith, noRow, rowsRead, setUpOf};
+ghost use Rattle.table.specs.Table.{Narrow, rowsOf, shaped, misshapen, repeats, isMulti, judgeTable, judgeRows, noRow, rowsRead};
+ghost use Rattle.setup.specs.Setup.{setUpWith, setUpOf};
+
+// What set-up answers, and the rows of an accepted table; a refused one leaves none. Nobody makes one by
+// hand: `set_up`, `set_up_own` and `set_up_with` do.
+pub struct SetUp {
+    answer: Checked,
+    rows: Rows,
+}
 
 // ---- acceptance
 
@@ -80,34 +90,54 @@ fn multi_count(cells: &[u32; 16], count: usize) -> usize
     multis
 }
 
-// Whether these rows are a table.
-pub fn check(rows: Rows) -> Checked
-    ensures { λ r. ⌜ r ≡ judgeRows rows ⌝ }
+// Whether the rows of a column are a table.
+fn check_column(cells: &[u32; 16], count: usize) -> Checked
+    ensures { λ r. ⌜ r ≡ judgeTable (rowsOf (now (cells .entry)) count) ⌝ }
 {
-    let count = rows.count;
-    let cells = rows.cells;
-    if rows.more {
-        return Checked::Refused(Refusal::RowCountOrShape);
-    }
     if count < 1 {
         return Checked::Refused(Refusal::RowCountOrShape);
     }
     if 16 < count {
         return Checked::Refused(Refusal::RowCountOrShape);
     }
-    if has_misshapen(&cells, count) {
+    if has_misshapen(cells, count) {
         return Checked::Refused(Refusal::RowCountOrShape);
     }
-    if has_repeats(&cells, count) {
+    if has_repeats(cells, count) {
         return Checked::Refused(Refusal::Repeat);
     }
-    if 4 < multi_count(&cells, count) {
+    if 4 < multi_count(cells, count) {
         return Checked::Refused(Refusal::TooManyMulti);
     }
     Checked::Accepted
 }
 
+// Whether these rows are a table. A row that found no cell is one too many.
+pub fn check(rows: Rows) -> Checked
+    ensures { λ r. ⌜ r ≡ judgeRows rows ⌝ }
+{
+    if rows.more() {
+        return Checked::Refused(Refusal::RowCountOrShape);
+    }
+    let cells = rows.cells();
+    check_column(&cells, rows.count())
+}
+
 // ---- set-up
+
+impl SetUp {
+    pub fn answer(self) -> Checked
+        ensures { λ r. ⌜ r ≡ self .answer ⌝ }
+    {
+        self.answer
+    }
+
+    pub fn rows(self) -> Rows
+        ensures { λ r. ⌜ r ≡ self .rows ⌝ }
+    {
+        self.rows
+    }
+}
 
 // The work of set-up, over rows by value.
 pub fn set_up_with(rows: Rows) -> SetUp
@@ -118,7 +148,7 @@ pub fn set_up_with(rows: Rows) -> SetUp
         Checked::Accepted => SetUp { answer, rows },
         Checked::Refused(_) => SetUp {
             answer,
-            rows: router_rows::no_rows(),
+            rows: table::no_rows(),
         },
     }
 }
@@ -137,10 +167,10 @@ fn row_at(rows: &[Row], i: usize) -> Row
 pub fn read_rows(rows: &[Row]) -> Rows
     ensures { λ r. ⌜ r ≡ rowsRead (now (rows .entry)) ⌝ }
 {
-    let mut held = router_rows::no_rows();
+    let mut held = table::no_rows();
     let mut i = 0;
     while i < rows.len() {
-        held = router_rows::with_row(held, row_at(rows, i));
+        held = table::with_row(held, row_at(rows, i));
         i += 1;
     }
     held

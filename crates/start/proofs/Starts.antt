@@ -4,11 +4,13 @@ use mathlib.Core.List.{List, reverse}
 use Rattle.table.specs.declared.Row.{Row}
 use Rattle.table.specs.declared.Rows.{Rows}
 use Rattle.table.specs.declared.Checked.{Checked}
-use Rattle.table.specs.declared.SetUp.{SetUp}
 use Rattle.table.specs.declared.Checked.the-variants.{Accepted}
-use Rattle.table.specs.Table.{heldRows, Held, judgeRows, judgeTable, keptBy, rowsRead, Proper, setUpWith, setUpOf, Settled}
+use Rattle.table.specs.Table.{heldRows, Held, judgeRows, judgeTable, keptBy, rowsRead, Proper}
 use Rattle.table.proofs.Judged.{accepted}
-use Rattle.table.proofs.Read.{read-rows, set-up-settled, lent-settled}
+use Rattle.table.proofs.Read.{read-rows}
+use Rattle.setup.specs.declared.SetUp.{SetUp}
+use Rattle.setup.specs.Setup.{setUpWith, setUpOf, Settled}
+use Rattle.setup.proofs.Settled.{set-up-settled, lent-settled}
 use Rattle.places.proofs.Points as points
 use Rattle.rules.specs.View.{fresh}
 use Rattle.rules.proofs.Kept.{conduct-fresh}

@@ -3,8 +3,9 @@ use mathlib.Core.List.{List}
 use lib.ListN.{replicate}
 use Rattle.table.specs.declared.Row.{Row}
 use Rattle.table.specs.declared.Rows.{Rows}
-use Rattle.table.specs.declared.SetUp.{SetUp}
-use Rattle.table.specs.Table.{noRows, setUpWith, setUpOf}
+use Rattle.table.specs.Table.{noRows}
+use Rattle.setup.specs.declared.SetUp.{SetUp}
+use Rattle.setup.specs.Setup.{setUpWith, setUpOf}
 use Rattle.router.specs.declared.Router.{Router}
 use Rattle.router.specs.Router.{stateOf}
 use Rattle.start.specs.declared.Started.{Started}

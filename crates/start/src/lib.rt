@@ -1,13 +1,15 @@
 // The start: a fresh router over a table that is accepted.
 //
 // A program that lends its rows sets the table up with `setup::set_up` or `setup::set_up_own`, and
-// starts here from what that hands back.
+// starts here from what that hands back. What a start requires of rows and of a set-up holds of all there
+// are: nobody makes one by hand (rooms table and setup).
 use router::Router;
+use setup::SetUp;
 use table::Checked;
 use table::Rows;
-use table::SetUp;
 ghost use mathlib.Core.Path.{_≡_};
-ghost use Rattle.table.specs.Table.{Held, Settled};
+ghost use Rattle.table.specs.Table.{Held};
+ghost use Rattle.setup.specs.Setup.{Settled};
 ghost use Rattle.start.specs.Start.{freshOver, blank as blankRouter, startFrom, startWith};
 
 // What a start answers, and the router; a refused table leaves a blank one.
@@ -20,16 +22,17 @@ pub struct Started {
 fn fresh_over(rows: Rows) -> Router
     ensures { λ r. ⌜ r ≡ freshOver rows ⌝ }
 {
-    let cells = rows.cells;
+    let cells = rows.cells();
+    let count = rows.count();
     let list = [0; 48];
-    router::state_of(cells, rows.count, list, 0)
+    router::state_of(cells, count, list, 0)
 }
 
 // The router that a refused table leaves: over no rows.
 pub fn blank() -> Router
     ensures { λ r. ⌜ r ≡ blankRouter ⌝ }
 {
-    fresh_over(router_rows::no_rows())
+    fresh_over(table::no_rows())
 }
 
 // A fresh router over a table that was set up.
@@ -37,8 +40,8 @@ pub fn start_from(set: SetUp) -> Started
     requires { ⌜ Settled set ⌝ }
     ensures { λ r. ⌜ r ≡ startFrom set ⌝ }
 {
-    let answer = set.answer;
-    let rows = set.rows;
+    let answer = set.answer();
+    let rows = set.rows();
     let router = fresh_over(rows);
     Started { answer, router }
 }

@@ -1,6 +1,6 @@
 -- Rows that are read one by one: what is held then, and that the table is judged as the list of all lent rows.
 use Prim.Native.Nat.{ℕ, zero, suc, _+_, _≤_, _<_}
-use mathlib.Core.Path.{_≡_, refl, sym, ap, subst, _∙_}
+use mathlib.Core.Path.{_≡_, refl, sym, ap, _∙_}
 use mathlib.Core.Bool.{Bool, true, false}
 use mathlib.Core.List.{List, [], _∷_, _++_, reverseAux, reverse, append-nil}
 use native.Mathlib.Nat.{not-suc-le-zero, le-of-suc-le-suc}
@@ -18,7 +18,7 @@ use Rattle.table.specs.declared.Rows.{Rows}
 use Rattle.table.specs.declared.Checked.{Checked}
 use Rattle.table.specs.declared.Checked.the-variants.{Accepted, Refused}
 use Rattle.table.specs.Said.{saidChecked}
-use Rattle.table.specs.Table.{pack, unpack, Proper, heldRows, Held, noRows, withRow, withRows, rowsRead, column, firstRows, judgeTable, judgeRows, keptBy, setUpWith, setUpOf, Settled}
+use Rattle.table.specs.Table.{pack, unpack, Proper, heldRows, Held, noRows, withRow, withRows, rowsRead, column, firstRows, judgeTable, judgeRows, keptBy}
 use Rattle.table.proofs.Cells.{row-back, exact}
 use Rattle.table.proofs.Judged.{judge-many, judge-reverse, accepted, none-proper}
 
@@ -109,10 +109,6 @@ judge-read rows = go (ltb 16 (length rows)) refl
         let l = ltb-false 16 (length rows) e in
         rw (read-few rows noRows none-held refl (omega arith) .1, read-rows rows l) (judge-reverse rows)
 
--- set-up with the rows that were read is the set-up of the lent rows
-pub set-up-read : (rows : List Row) → setUpWith (rowsRead rows) ≡ setUpOf rows
-set-up-read rows = ap (λ (c : Checked). record { answer = c; rows = keptBy c (rowsRead rows) }) (judge-read rows)
-
 -- rows that are accepted are a table
 pub rows-proper : (t : Rows) → judgeRows t ≡ Accepted → Proper (heldRows t)
 unfolding judgeRows
@@ -124,16 +120,20 @@ pub says-more : (t : Rows) → t .more ≡ true → saidChecked (judgeRows t) �
 unfolding judgeRows
 says-more t e = rw e
 
--- what set-up leaves is lawful, also after a refusal
-pub set-up-settled : (t : Rows) → Held t → Settled (setUpWith t)
-set-up-settled t h = go (judgeRows t) refl
+-- what set-up keeps of rows is a table or none at all, and held
+pub kept-proper : (t : Rows) → Proper (heldRows (keptBy (judgeRows t) t))
+kept-proper t = go (judgeRows t) refl
   where
-    go : (c : Checked) → judgeRows t ≡ c → Settled (record { answer = c; rows = keptBy c t })
-    go Accepted e = record { held = h; proper = rows-proper t e }
-    go (Refused r) e = record { held = none-held; proper = none-proper }
+    go : (c : Checked) → judgeRows t ≡ c → Proper (heldRows (keptBy c t))
+    go Accepted e = rows-proper t e
+    go (Refused r) e = none-proper
 
-pub lent-settled : (rows : List Row) → Settled (setUpOf rows)
-lent-settled rows = subst Settled (set-up-read rows) (set-up-settled (rowsRead rows) (read-held rows))
+pub kept-held : (t : Rows) → Held t → Held (keptBy (judgeRows t) t)
+kept-held t h = go (judgeRows t)
+  where
+    go : (c : Checked) → Held (keptBy c t)
+    go Accepted = h
+    go (Refused r) = none-held
 
 -- ---- the same said at once
 

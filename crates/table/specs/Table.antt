@@ -14,7 +14,6 @@ use Rattle.table.specs.declared.Row.{Row}
 use Rattle.table.specs.declared.Rows.{Rows}
 use Rattle.table.specs.declared.Checked.{Checked}
 use Rattle.table.specs.declared.Checked.the-variants.{Accepted, Refused}
-use Rattle.table.specs.declared.SetUp.{SetUp}
 
 -- ---- what is asked of a table
 
@@ -160,20 +159,9 @@ firstRows rows = record {
   more = ltb 16 (length rows);
 }
 
--- ---- set-up
+-- ---- what set-up keeps
 
 -- an accepted table is kept, a refused one leaves no rows
 abbrev pub keptBy : Checked → Rows → Rows
 keptBy Accepted t = t
 keptBy (Refused r) t = noRows
-
-abbrev pub setUpWith : Rows → SetUp
-setUpWith t = record { answer = judgeRows t; rows = keptBy (judgeRows t) t }
-
-abbrev pub setUpOf : List Row → SetUp
-setUpOf rows = record { answer = judgeTable rows; rows = keptBy (judgeTable rows) (rowsRead rows) }
-
--- the law of what set-up hands back: its rows are held, and they are a table or none at all
-pub record Settled (u : SetUp) : Type 0 where
-  pub held : Held (u .rows)
-  pub proper : Proper (heldRows (u .rows))

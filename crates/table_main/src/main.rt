@@ -4,9 +4,8 @@
 use libc::STDOUT_FILENO;
 use table::Checked;
 use table::Row;
-use table::SetUp;
 ghost use Prim.Native.Nat.{_≤_};
-ghost use Rattle.table.specs.Table.{Held};
+ghost use Rattle.table.specs.Table.{Column};
 
 fn row(address: u16) -> Row {
     Row {
@@ -41,7 +40,7 @@ fn say(number: u8) {
 
 fn say_set_up(rows: [Row; 17], count: usize) {
     let done = setup::set_up_own(rows, count);
-    let answer = done.answer;
+    let answer = done.answer();
     match answer {
         Checked::Accepted => say(0),
         Checked::Refused(refusal) => say(tapa::number(refusal)),
@@ -75,12 +74,10 @@ fn bit(b: bool) -> u8
     if b { 1 } else { 0 }
 }
 
-fn say_look_ups(done: SetUp)
-    requires { ⌜ Held (done .rows) ⌝ }
+fn say_look_ups(column: [u32; 16], count: usize)
+    requires { ⌜ Column column count ⌝ }
 {
-    let rows = done.rows;
-    let mut cells = rows.cells;
-    let count = rows.count;
+    let mut cells = column;
     say(bit(router_rows::is_listed(&cells, count, 0x0204)));
     say(bit(router_rows::is_listed(&cells, count, 0x0284)));
     say(bit(router_rows::is_open(&cells, count, 0x0204)));
@@ -94,5 +91,6 @@ fn main() {
     let rows = plenty();
     say_rows_and_shapes(rows);
     say_repeats_and_multi(rows);
-    say_look_ups(setup::set_up_own(rows, 16));
+    let held = setup::set_up_own(rows, 16).rows();
+    say_look_ups(held.cells(), held.count());
 }

@@ -1,7 +1,7 @@
 -- `example::begin` meets its contract: a start from lent rows hands back a lawful router. Assumes nothing.
 use mathlib.Core.Path.{sym, ap, subst, _∙_}
-use Rattle.table.specs.Table.{Settled}
-use Rattle.table.proofs.Read.{lent-settled}
+use Rattle.setup.specs.Setup.{Settled}
+use Rattle.setup.proofs.Settled.{lent-settled}
 use Rattle.start.specs.declared.Started.{Started}
 use Rattle.start.specs.Start.{startFrom}
 use Rattle.start.proofs.Starts.{lent-law}

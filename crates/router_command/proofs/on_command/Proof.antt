@@ -14,7 +14,7 @@ returns c = let s = c .before .before .before .before .before .before .before .b
 returns-2 : tie.Need-returns-2
 returns-2 c = let s = c .before .before .before .before .before .before .before .before .before in
     let e = ap (ruled (s .args .head)) (sym (c .before .before .before .before .enum-told .given .1)) ∙ c .before .before .before .before .before .before .rule-for .ensures in
-    passes _ _ (s .pre .0) (s .args .head) _ _ _ _ _ _ (c .passed .ensures) (c .before .before .wait-of .ensures) e (c .before .push .ensures)
+    passes _ _ (s .pre .0) (s .args .head) _ _ _ _ _ _ (s .pre .1 .0) (c .passed .ensures) (c .before .before .wait-of .ensures) e (c .before .push .ensures)
 
 pub on-command-spec : {M : Type 1} → statement M
 on-command-spec =

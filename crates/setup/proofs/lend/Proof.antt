@@ -46,14 +46,14 @@ use denote.Triple.Table.{entered, cited}
 use denote.Triple.Walked.{says, needs, Stays, stay-none, walkOf, goes-none, Walks, ends-at, walked, walk-meets}
 use denote.Exit.{yes}
 use denote.Triple.Clauses.{ensured, lasts}
-use Rattle.table.specs.Table.{setUpOf}
 use Rattle.table.specs.declared.Row.{Row}
-use Rattle.table.specs.declared.SetUp.{SetUp}
+use Rattle.setup.specs.declared.SetUp.{SetUp}
+use Rattle.setup.specs.Setup.{setUpOf}
 use Rattle.setup.proofs.Part.{Others, front, whole}
 use Rattle.table.proofs.Row as T
 use Rattle.table.proofs.Row.Laws as T′
-use Rattle.table.proofs.SetUp as Z
-use Rattle.table.proofs.SetUp.Laws as Z′
+use Rattle.setup.proofs.SetUp as Z
+use Rattle.setup.proofs.SetUp.Laws as Z′
 use Rattle.setup.proofs.set_up as set-up
 use Rattle.setup.proofs.set_up.Symbol as set-up-def
 use Rattle.setup.proofs.set_up.Symbol.{name as #setup·set-up}

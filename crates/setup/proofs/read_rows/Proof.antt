@@ -56,18 +56,18 @@ use Rattle.table.proofs.Row as T
 use Rattle.table.proofs.Row.Laws as T′
 use Rattle.table.proofs.Rows as S
 use Rattle.table.proofs.Rows.Laws as S′
-use Rattle.router_rows.proofs.no_rows as none
-use Rattle.router_rows.proofs.no_rows.Symbol as none-def
-use Rattle.router_rows.proofs.no_rows.Symbol.{name as #router-rows·no-rows}
-use Rattle.router_rows.proofs.no_rows.Met as none-thm
+use Rattle.table.proofs.no_rows as none
+use Rattle.table.proofs.no_rows.Symbol as none-def
+use Rattle.table.proofs.no_rows.Symbol.{name as #table·no-rows}
+use Rattle.table.proofs.no_rows.Met as none-thm
 use Rattle.setup.proofs.row_at as row-at
 use Rattle.setup.proofs.row_at.Symbol as row-at-def
 use Rattle.setup.proofs.row_at.Symbol.{name as #setup·row-at}
 use Rattle.setup.proofs.row_at.Met as row-at-thm
-use Rattle.router_rows.proofs.with_row as with-row
-use Rattle.router_rows.proofs.with_row.Symbol as with-row-def
-use Rattle.router_rows.proofs.with_row.Symbol.{name as #router-rows·with-row}
-use Rattle.router_rows.proofs.with_row.Met as with-row-thm
+use Rattle.table.proofs.with_row as with-row
+use Rattle.table.proofs.with_row.Symbol as with-row-def
+use Rattle.table.proofs.with_row.Symbol.{name as #table·with-row}
+use Rattle.table.proofs.with_row.Met as with-row-thm
 use Rattle.setup.proofs.read_rows.Key.{name as #setup·read-rows}
 use Rattle.setup.proofs.read_rows as f
 use Rattle.setup.proofs.read_rows.Statement as stated
@@ -178,7 +178,7 @@ module _ {M : Type 1} (𝓤 : URA M) (H : Heap 𝓤) (A : Atoms 𝓤) (W : Given
   Nearer-wf : WellFounded Nearer
   Nearer-wf = InvImage·wf (λ (x : State). n - x .0) (Nat·lt-wfRel .wf)
 
-  module _ (𝓣 : Tables 𝓤 H) (known-none : Triple 𝓤 (𝓣 .C #router-rows·no-rows) (None 𝓤 H A mem run)) (known-row : Triple 𝓤 (𝓣 .C #setup·row-at) (RowAt 𝓤 H A mem run)) (known-with : Triple 𝓤 (𝓣 .C #router-rows·with-row) (WithRow 𝓤 H A mem run)) (gn : Room R n) where
+  module _ (𝓣 : Tables 𝓤 H) (known-none : Triple 𝓤 (𝓣 .C #table·no-rows) (None 𝓤 H A mem run)) (known-row : Triple 𝓤 (𝓣 .C #setup·row-at) (RowAt 𝓤 H A mem run)) (known-with : Triple 𝓤 (𝓣 .C #table·with-row) (WithRow 𝓤 H A mem run)) (gn : Room R n) where
     abbrev C : Calls 𝓤 H
     C = 𝓣 .C
 
@@ -267,7 +267,7 @@ module _ {M : Type 1} (𝓤 : URA M) (H : Heap 𝓤) (A : Atoms 𝓤) (W : Given
         looped l₀ l₁ l₂ l₃ l₄ l₅ l₆ (0, (t, (u, (zero-le, (is, ap (λ (z : Rows). withRows z ys) e))))))))))))))))
 
 module _ {M : Type 1} (𝓤 : URA M) (H : Heap 𝓤) (A : Atoms 𝓤) (W : Given 𝓤 H A) (mem : Memory → SProp 𝓤) (run : Routine → Fun 𝓤) (𝓣 : Tables 𝓤 H)
-    (known-none : Triple 𝓤 (𝓣 .C #router-rows·no-rows) (None 𝓤 H A mem run)) (known-row : Triple 𝓤 (𝓣 .C #setup·row-at) (RowAt 𝓤 H A mem run)) (known-with : Triple 𝓤 (𝓣 .C #router-rows·with-row) (WithRow 𝓤 H A mem run)) where
+    (known-none : Triple 𝓤 (𝓣 .C #table·no-rows) (None 𝓤 H A mem run)) (known-row : Triple 𝓤 (𝓣 .C #setup·row-at) (RowAt 𝓤 H A mem run)) (known-with : Triple 𝓤 (𝓣 .C #table·with-row) (WithRow 𝓤 H A mem run)) where
   walks : Walks 𝓤 H A f.ended stayed (WpFn 𝓤 H (𝓣 .C) (𝓣 .Λ) code.function) (f.clauses 𝓤 H A mem run)
   walks = walked 𝓤 H A f.ended stayed (f.clauses 𝓤 H A mem run) (WpFn 𝓤 H (𝓣 .C) (𝓣 .Λ) code.function) (λ κs. (slice-vals, tt)) (λ κs. (shr-slice-tells (named 0) (κs .0) R, tt))
       (λ κs qs bounds a g are. via 𝓤 _ (fst∗ 𝓤 _ (emp 𝓤)) (walk 𝓤 H A W mem run (κs .0) (qs .0) (a .0) 𝓣 known-none known-row known-with (are .0 .0 .1)))
@@ -281,6 +281,6 @@ read-rows-spec 𝓤 H 𝓜 𝓖 𝓡 =
     entered 𝓤 H (tripleOf 𝓤 H (𝓖 .A) f.signature (f.spec 𝓤 H (𝓖 .A) (𝓜 .mem) (𝓡 .run)))
     (tables 𝓤 H 𝓜 𝓡 code.env .C) (tables 𝓤 H 𝓜 𝓡 code.env .Λ) #setup·read-rows code.function (code.unfolded 𝓤 H 𝓜 𝓡)
     (meets 𝓤 H (𝓖 .A) (givenOf 𝓤 H 𝓜 𝓖) (𝓜 .mem) (𝓡 .run) (tablesOf 𝓤 H 𝓜 (tables 𝓤 H 𝓜 𝓡 code.env))
-    (cited 𝓤 H (None 𝓤 H (𝓖 .A) (𝓜 .mem) (𝓡 .run)) 𝓜 𝓡 code.env #router-rows·no-rows none-def.routine code.calls-router-rows·no-rows (none-thm.met 𝓤 H 𝓜 𝓖 𝓡))
+    (cited 𝓤 H (None 𝓤 H (𝓖 .A) (𝓜 .mem) (𝓡 .run)) 𝓜 𝓡 code.env #table·no-rows none-def.routine code.calls-table·no-rows (none-thm.met 𝓤 H 𝓜 𝓖 𝓡))
     (cited 𝓤 H (RowAt 𝓤 H (𝓖 .A) (𝓜 .mem) (𝓡 .run)) 𝓜 𝓡 code.env #setup·row-at row-at-def.routine code.calls-setup·row-at (row-at-thm.met 𝓤 H 𝓜 𝓖 𝓡))
-    (cited 𝓤 H (WithRow 𝓤 H (𝓖 .A) (𝓜 .mem) (𝓡 .run)) 𝓜 𝓡 code.env #router-rows·with-row with-row-def.routine code.calls-router-rows·with-row (with-row-thm.met 𝓤 H 𝓜 𝓖 𝓡)))
+    (cited 𝓤 H (WithRow 𝓤 H (𝓖 .A) (𝓜 .mem) (𝓡 .run)) 𝓜 𝓡 code.env #table·with-row with-row-def.routine code.calls-table·with-row (with-row-thm.met 𝓤 H 𝓜 𝓖 𝓡)))

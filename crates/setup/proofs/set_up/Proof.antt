@@ -33,16 +33,17 @@ use denote.Triple.Table.{entered, cited}
 use denote.Triple.Walked.{says, Stays, stay-none-slice, walkOf, goes-none-slice, Walks, ends-at, walked, walk-meets}
 use denote.Exit.{yes}
 use denote.Triple.Clauses.{ensured, lasts}
-use Rattle.table.specs.Table.{rowsRead, setUpWith, setUpOf}
+use Rattle.table.specs.Table.{rowsRead}
 use Rattle.table.specs.declared.Row.{Row}
 use Rattle.table.specs.declared.Rows.{Rows}
-use Rattle.table.specs.declared.SetUp.{SetUp}
-use Rattle.table.proofs.Read.{set-up-read}
+use Rattle.setup.specs.declared.SetUp.{SetUp}
+use Rattle.setup.specs.Setup.{setUpWith, setUpOf}
+use Rattle.setup.proofs.Settled.{set-up-read}
 use Rattle.table.proofs.Row as T
 use Rattle.table.proofs.Rows as S
 use Rattle.table.proofs.Rows.Laws as S′
-use Rattle.table.proofs.SetUp as Z
-use Rattle.table.proofs.SetUp.Laws as Z′
+use Rattle.setup.proofs.SetUp as Z
+use Rattle.setup.proofs.SetUp.Laws as Z′
 use Rattle.setup.proofs.read_rows as read-rows
 use Rattle.setup.proofs.read_rows.Symbol as read-rows-def
 use Rattle.setup.proofs.read_rows.Symbol.{name as #setup·read-rows}

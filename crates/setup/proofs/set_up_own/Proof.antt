@@ -3,7 +3,7 @@ use mathlib.Core.Path.{sym, ap, _∙_}
 use native.Mathlib.Omega.{arith}
 use lib.Seq.{take-all}
 use borrow.Author.Needs.{needs}
-use Rattle.table.specs.Table.{setUpOf}
+use Rattle.setup.specs.Setup.{setUpOf}
 use Rattle.setup.proofs.set_up_own.Statement.{statement}
 use Rattle.setup.proofs.set_up_own.Tie as tie
 

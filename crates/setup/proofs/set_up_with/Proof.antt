@@ -3,7 +3,8 @@ use mathlib.Core.Path.{_≡_, sym, ap, _∙_}
 use borrow.Author.Needs.{needs}
 use Rattle.table.specs.declared.Checked.{Checked}
 use Rattle.table.specs.declared.Rows.{Rows}
-use Rattle.table.specs.Table.{judgeRows, keptBy, setUpWith}
+use Rattle.table.specs.Table.{judgeRows, keptBy}
+use Rattle.setup.specs.Setup.{setUpWith}
 use Rattle.setup.proofs.set_up_with.Statement.{statement}
 use Rattle.setup.proofs.set_up_with.Tie as tie
 

@@ -1,8 +1,8 @@
 -- `start::start_with` meets its contract: the rows that set-up leaves are the table, and settled. Assumes nothing.
 use mathlib.Core.Path.{sym, ap, subst, _∙_}
 use borrow.Author.Needs.{needs}
-use Rattle.table.specs.Table.{Settled}
-use Rattle.table.proofs.Read.{set-up-settled}
+use Rattle.setup.specs.Setup.{Settled}
+use Rattle.setup.proofs.Settled.{set-up-settled}
 use Rattle.start.specs.Start.{startFrom}
 use Rattle.start.proofs.start_with.Statement.{statement}
 use Rattle.start.proofs.start_with.Tie as tie

@@ -12,22 +12,22 @@ use Rattle.workbench.proofs.show.Statement.{statement}
 use Rattle.workbench.proofs.show.Tie as tie
 
 abbrev Inv-loop : tie.InvT-loop
-Inv-loop program input line₀ work₀ area₀ bench₀ line work area bench = (8192 ≡ length line) × (2048 ≡ length work) × (98048 ≡ length area) × Sound bench area
+Inv-loop program input line₀ work₀ area₀ bench₀ line work area bench = (2048 ≡ length work) × (98048 ≡ length area) × Sound bench area
 
 abbrev μ-loop : tie.MeasureT-loop
 μ-loop program input line₀ work₀ area₀ bench₀ line work area bench = length input - bench .at
 
 loop-holds : tie.Need-loop-holds Inv-loop μ-loop
-loop-holds c = (search needs, search needs, search needs, c .fresh .ensures .0 _ (search needs))
+loop-holds c = (search needs, search needs, c .fresh .ensures .0 _ (search needs))
 
 slice-aggregate-write : tie.Need-slice-aggregate-write Inv-loop μ-loop
 slice-aggregate-write c = sym (length-take-le _ _ (search needs))
 
 loop-less : tie.Need-loop-less Inv-loop μ-loop
-loop-less c = omega (arith, c .before .before .before .before .before .before .before .before .before .turn .ensures .onwards (not-false _ (c .before .if2 .left)), c .before .before .before .before .before .before .before .before .before .turn .ensures .inside (not-false _ (c .before .if2 .left)))
+loop-less c = omega (arith, c .before .before .before .before .before .before .before .before .turn .ensures .onwards (not-false _ (c .before .if2 .left)), c .before .before .before .before .before .before .before .before .turn .ensures .inside (not-false _ (c .before .if2 .left)))
 
 loop-again : tie.Need-loop-again Inv-loop μ-loop
-loop-again c = (search needs, search needs, search needs, c .before .before .before .before .before .before .before .before .before .turn .ensures .sound (not-false _ (c .before .if2 .left)))
+loop-again c = (search needs, search needs, c .before .before .before .before .before .before .before .before .turn .ensures .sound (not-false _ (c .before .if2 .left)))
 
 pub show-spec : {M : Type 1} → statement M
 show-spec =
@@ -38,7 +38,6 @@ show-spec =
     (λ c κs. search needs)
     (λ c κs. search needs)
     loop-holds
-    (λ c. search needs)
     (λ c. search needs)
     (λ c. search needs)
     (λ c κs. search needs)

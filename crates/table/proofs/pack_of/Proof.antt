@@ -1,8 +1,8 @@
--- `router_rows::pack_of` meets its contract: one more for an open row. Assumes nothing.
+-- `table::pack_of` meets its contract: one more for an open row. Assumes nothing.
 use native.Mathlib.Omega.{arith}
 use borrow.Author.Needs.{needs}
-use Rattle.router_rows.proofs.pack_of.Statement.{statement}
-use Rattle.router_rows.proofs.pack_of.Tie as tie
+use Rattle.table.proofs.pack_of.Statement.{statement}
+use Rattle.table.proofs.pack_of.Tie as tie
 
 returns : tie.Need-returns
 returns c = rw (c .if1 .taken)

@@ -1,9 +1,9 @@
--- `router_rows::with_row` meets its contract: each arm by the test that led there. Assumes nothing.
+-- `table::with_row` meets its contract: each arm by the test that led there. Assumes nothing.
 use borrow.Author.Tests.{le-ltb, lt-ltb}
 use Rattle.table.specs.Table.{withRow}
 use borrow.Author.Needs.{needs}
-use Rattle.router_rows.proofs.with_row.Statement.{statement}
-use Rattle.router_rows.proofs.with_row.Tie as tie
+use Rattle.table.proofs.with_row.Statement.{statement}
+use Rattle.table.proofs.with_row.Tie as tie
 
 returns : tie.Need-returns
 unfolding withRow
