@@ -6,7 +6,7 @@ use mathlib.Core.List.{List, [], _∷_, _++_}
 use native.Mathlib.Omega.{arith}
 use lib.Dec.{leb}
 use lib.ListN.{length, take, drop, length-append, length-drop, take-append-drop, drop-of-length-le}
-use lib.Seq.{take-all, take-nil, take-at, take-append-seam, drop-drop}
+use lib.Seq.{take-all, take-nil, take-at, take-append-seam, drop-drop, length-take-le}
 use borrow.Author.Tests.{leb-true, leb-false}
 use denote.Ref.{RefT, now}
 use Rattle.lists.specs.Lists.{count, onto}
@@ -193,16 +193,22 @@ cutter-whole message b buffers begins l =
 -- ---- sums at the desk
 
 -- C6: 'response with 248 data bytes, code included: one command, P2 '00''
-pub desk-c6 : (part : List ℕ) (thread : ℕ) → length part ≡ 248 → commandsOf part thread ≡ commandOf thread 0x00 part ∷ []
-unfolding pieceAt
+pub desk-c6 : (part : List ℕ) (thread : ℕ) → length part ≡ 248
+    → commandsOf part thread ≡ (0xB0 ∷ 0xFE ∷ thread ∷ 0x00 ∷ 248 ∷ (part ++ (0x00 ∷ []))) ∷ []
+unfolding pieceAt commandOf
 desk-c6 part thread e =
     let piece : pieceAt part 0 ≡ part = take-all 248 part (omega arith) in
-    rw (e, piece, last-p2 part 0 (omega arith))
+    rw (e, piece, last-p2 part 0 (omega arith), e)
 
 -- C7: '249: 248 then 1'
 pub desk-c7 : (part : List ℕ) (thread : ℕ) → length part ≡ 249
-    → commandsOf part thread ≡ commandOf thread 0x01 (take 248 part) ∷ commandOf thread 0x00 (drop 248 part) ∷ []
-unfolding pieceAt
+    → commandsOf part thread
+    ≡ (0xB0 ∷ 0xFE ∷ thread ∷ 0x01 ∷ 248 ∷ (take 248 part ++ (0x00 ∷ [])))
+    ∷ (0xB0 ∷ 0xFE ∷ thread ∷ 0x00 ∷ 1 ∷ (drop 248 part ++ (0x00 ∷ [])))
+    ∷ []
+unfolding pieceAt commandOf
 desk-c7 part thread e =
     let piece : take 248 (drop 248 part) ≡ drop 248 part = take-all 248 (drop 248 part) (omega (arith, length-drop 248 part)) in
-    rw (e, piece, more-p2 part 0 (omega arith), last-p2 part 248 (omega arith))
+    let one : length (drop 248 part) ≡ 1 = omega (arith, length-drop 248 part) in
+    let full : length (take 248 part) ≡ 248 = length-take-le 248 part (omega arith) in
+    rw (e, piece, more-p2 part 0 (omega arith), last-p2 part 248 (omega arith), one, full)

@@ -1,17 +1,18 @@
 -- The page's types, lengths and codes, written out: what a data part asks, what is decided, and what a reply carries.
-use Prim.Native.Nat.{ℕ, _+_, _*_, _/_, _%_}
+use Prim.Native.Nat.{ℕ, _+_, _*_, _/_, _%_, _≤_, _<_}
 use mathlib.Core.Path.{_≡_, refl}
 use mathlib.Core.Bool.{true, false, cond}
-use mathlib.Core.List.{List, [], _∷_}
+use mathlib.Core.List.{List, [], _∷_, _++_}
 use mathlib.Core.Option.{none, some}
 use lib.Dec.{eqb}
 use lib.ListN.{length, getD}
+use borrow.Author.Tests.{lt-ltb, le-ltb}
 use Rattle.tapa.specs.Address.{handlerOf}
 use Rattle.message.specs.declared.Head.{Head}
 use Rattle.queue.specs.declared.Event.{Event}
 use Rattle.events.specs.declared.Command.the-variants.{Add, WrongAdd, Get, Find, Flush, Wrong}
 use Rattle.events.specs.declared.Outcome.the-variants.{Added, Ignored, Taken, Emptied, Coded}
-use Rattle.events.specs.Events.{elsewhere, commandOf, judge, carried}
+use Rattle.events.specs.Events.{elsewhere, commandOf, judge, apply, carried}
 
 -- ---- whose it is: 'destination handler not '0700' or type 'FF''
 
@@ -56,6 +57,16 @@ pub decided : (es : List Event) (e : Event) → (judge es Wrong ≡ Coded 0xFFFB
     × (judge (e ∷ es) Get ≡ Taken e) × (judge [] Flush ≡ Coded 0xFF72) × (judge (e ∷ es) Flush ≡ Emptied)
 unfolding judge
 decided es e = (refl, refl, refl, refl, refl, refl)
+
+-- 'It holds at most 100 events', and 'Add to a full queue drops the newcomer (house).'
+module _ (es : List Event) (e : Event) where
+  pub add-under-100 : length es < 100 → (judge es (Add e) ≡ Added e) × (apply (Added e) es ≡ es ++ (e ∷ []))
+  unfolding judge apply
+  add-under-100 l = (rw (lt-ltb (length es) 100 l), rw (lt-ltb (length es) 100 l))
+
+  pub add-to-100 : 100 ≤ length es → (judge es (Add e) ≡ Ignored) × (apply Ignored es ≡ es)
+  unfolding judge apply
+  add-to-100 l = (rw (le-ltb (length es) 100 l), refl)
 
 -- ---- what a reply carries: 'type, location, '0000' (length '0005'); all others only the code'
 

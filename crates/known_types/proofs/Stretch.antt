@@ -24,7 +24,7 @@ and-second : (a b : Bool) → T (a && b) → T b
 and-second true b t = t
 and-second false b t = absurd t
 
-within : (p : ℕ → Bool) (lo n k : ℕ) → T (all p lo n) → lo ≤ k → k < lo + n → T (p k)
+pub within : (p : ℕ → Bool) (lo n k : ℕ) → T (all p lo n) → lo ≤ k → k < lo + n → T (p k)
 within p lo zero k t l h = absurd (omega arith)
 within p lo (suc n) k t l h =
     go (within p (suc lo) n k (and-second (p lo) (all p (suc lo) n) t)) (eqb lo k) refl
@@ -33,7 +33,7 @@ within p lo (suc n) k t l h =
     go later true e = rw (sym (eqb-true lo k e)) (and-first (p lo) (all p (suc lo) n) t)
     go later false e = later (omega (arith, eqb-false lo k e)) (omega arith)
 
-same : (a b : Bool) → T (Bool·beq a b) → b ≡ a
+pub same : (a b : Bool) → T (Bool·beq a b) → b ≡ a
 same true true t = refl
 same true false t = absurd t
 same false true t = absurd t

@@ -8,7 +8,7 @@ use lib.Dec.{T, eqb}
 use borrow.Author.Tests.{lt-leb}
 use Rattle.lists.specs.Lists.{someOf}
 use Rattle.known_types.specs.Types.{common, own, known}
-use Rattle.known_types.proofs.Stretch.{all, none-own}
+use Rattle.known_types.proofs.Stretch.{all, within, same, none-own}
 
 -- whether a type is one of some
 abbrev pub among : List ℕ → ℕ → Bool
@@ -21,6 +21,12 @@ forAll = 0xF0 ∷ 0xF1 ∷ 0xF3 ∷ 0xF4 ∷ 0xF5 ∷ []
 -- of every byte: a category knows these types, those that are in for all, and no other
 abbrev pub Knows : ℕ → List ℕ → Type 0
 Knows category types = T (all (λ (kind : ℕ). Bool·beq (known category kind) (among types kind || among forAll kind)) 0 256)
+
+-- so at each of them
+pub knows-at : (category : ℕ) (types : List ℕ) → Knows category types → (kind : ℕ) → kind < 256 → known category kind ≡ (among types kind || among forAll kind)
+knows-at category types t kind l =
+    sym (same (known category kind) (among types kind || among forAll kind)
+    (within (λ (k : ℕ). Bool·beq (known category k) (among types k || among forAll k)) 0 256 kind t (omega arith) l))
 
 pub record Printed : Type 0 where
   -- Table 4: Handlers 0-2; 'For card, '40' to '47' are in'

@@ -58,6 +58,13 @@ module _ (a b k t : ℕ) (ha : a < 0x10000) (hb : b < 0x10000) (hk : k < 0x100) 
       let e5 : leb 0x1000000000000 x ≡ true = le-leb 0x1000000000000 x (omega arith) in
       record { same = omega arith; small = omega arith; back = cc }
 
+-- the number of a place fits 49 bits, and the largest one takes them all
+pub fits : (p : Place) (x : ℕ) → Packed p x → x ≤ 0x1FFFFFFFFFFFF
+fits p x k = omega (arith, k .small)
+
+pub largest : Packed (record { asker = 0xFFFF; asked = 0xFFFF; kind = 0xFF; thread = 0xFF; owed = true }) 0x1FFFFFFFFFFFF
+largest = owed-packed 0xFFFF 0xFFFF 0xFF 0xFF (omega arith) (omega arith) (omega arith) (omega arith)
+
 -- the mark is set by adding it
 pub marked : (x : ℕ) → x < 0x1000000000000 → unpack (x + 0x1000000000000) ≡ owing (unpack x)
 marked x h =

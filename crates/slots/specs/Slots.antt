@@ -37,8 +37,7 @@ isSlot size s = cond (eqb size 98048) (leb s 255) false
 abbrev pub bytesOf : List ℕ → ℕ → ℕ → ℕ → List ℕ
 bytesOf area s at n = cond (isSlot (length area) s) (cond (leb at 383) (cond (leb n (383 - at)) (take n (drop at (window area s))) []) []) []
 
--- 'Find compares length and bytes'
--- where they start in the area; the part of no bytes is the area's start
+-- where these bytes start in the area; 0 where there are no such bytes
 abbrev pub startOf : ℕ → ℕ → ℕ → ℕ → ℕ
 startOf size s at n = cond (isSlot size s) (cond (leb at 383) (cond (leb n (383 - at)) (s * 383 + at) 0) 0) 0
 
@@ -47,6 +46,7 @@ pub record SlotPart (area part : RefT (List ℕ)) (s at n : ℕ) : Type 0 where
   pub bytes : now part ≡ bytesOf (now area) s at n
   pub place : LiesAt (startOf (length (now area)) s at n) area part
 
+-- 'Find compares length and bytes'
 abbrev pub holdsKey : List ℕ → ℕ → ℕ → List ℕ → Bool
 holdsKey area s n key = same (bytesOf area s 0 n) key
 

@@ -1,3 +1,4 @@
+pub mod Bytes
 pub mod Desk
 pub mod Judged
 pub mod Marks
