@@ -18,12 +18,13 @@ use Rattle.message.specs.declared.Head.{Head}
 use Rattle.message.specs.declared.Coded.{Coded}
 use Rattle.message.specs.declared.Coded.the-variants.{Code, Missing}
 use Rattle.place.specs.declared.Place.{Place}
-use Rattle.places.specs.Places.{isOpen, isOwed, onThread, openOn, owedOn, asksExactly, owesExactly, asks, stands, holdsOn, holding, onSlot, notOwedBy, owing}
+use Rattle.places.specs.Places.{isOwed, onThread, openOn, owedOn, asksExactly, owesExactly, asks, stands, holdsOn, holding, onSlot, notOwedBy, owing}
 use Rattle.rules.specs.View.{View}
 use Rattle.rules.specs.declared.Outcome.{Outcome}
 use Rattle.rules.specs.declared.Outcome.the-variants.{Passed, Answered, Swallowed, Event, Turned, Given, Reset, Refused}
 use Rattle.rules.specs.Judge.{answerable, late, reply, judgeResponse, isAddEvent, mayAsk, busy, judgeCommand, judgeKind, yields, judgeGiveUp}
 use Rattle.rules.specs.Apply.{rowsAfter, placesAfter}
+use Rattle.rules.proofs.Waits.{open-thread}
 
 -- ---- what an outcome touches
 
@@ -50,7 +51,7 @@ module _ (g : ℕ → ℕ → Bool) where
   asked-there : (a t : ℕ) (x : Place) → asksExactly a t x ≡ true → inPart g x ≡ g a t
   asked-there a t x p =
       let q = and-yes (openOn t x) (eqb (x .asked) a) p in
-      rw (eqb-true (x .asked) a (q .1), eqb-true (x .thread) t (and-yes (isOpen x) (onThread t x) (q .0) .1))
+      rw (eqb-true (x .asked) a (q .1), eqb-true (x .thread) t (open-thread t x (q .0)))
 
   owed-there : (a t : ℕ) (x : Place) → owesExactly a t x ≡ true → inPart g x ≡ g a t
   owed-there a t x p =
@@ -111,26 +112,23 @@ module _ (t : ℕ) (l m : List Place) (e : part (ofThread t) l ≡ part (ofThrea
     first-same : first q l ≡ first q m
     first-same = first-within q (onThread t) within l ∙ ap (first q) e ∙ sym (first-within q (onThread t) within m)
 
-  open-thread : (x : Place) → openOn t x ≡ true → onThread t x ≡ true
-  open-thread x p = and-yes (isOpen x) (onThread t x) p .1
-
   -- rule d
   pub may-same : (a : ℕ) → mayAsk l t a ≡ mayAsk m t a
   may-same a =
-      ap₂ (λ (x y : Bool). cond x y (eqb (categoryOf a) tillDriver)) (some-same _ open-thread)
-      (some-same _ (λ x p. open-thread x (and-yes (openOn t x) (stands (handlerOf a) x) p .0)))
+      ap₂ (λ (x y : Bool). cond x y (eqb (categoryOf a) tillDriver)) (some-same _ (open-thread t))
+      (some-same _ (λ x p. open-thread t x (and-yes (openOn t x) (stands (handlerOf a) x) p .0)))
 
   -- rule e, where the asked handler's slot is the same
   pub busy-same : (a h : ℕ) → someOf (onSlot h t) l ≡ someOf (onSlot h t) m → busy l a h t ≡ busy m a h t
   unfolding busy
   busy-same a h f =
-      ap₂ (λ (x y : Bool). eqb h (handlerOf a) || (x || y)) (some-same _ (λ x p. open-thread x (and-yes (openOn t x) (stands h x) p .0))) f
+      ap₂ (λ (x y : Bool). eqb h (handlerOf a) || (x || y)) (some-same _ (λ x p. open-thread t x (and-yes (openOn t x) (stands h x) p .0))) f
 
   pub holding-same : (a : ℕ) → holding l a t ≡ holding m a t
-  holding-same a = some-same (holdsOn t (handlerOf a)) (λ x p. open-thread x (and-yes (openOn t x) (eqb (handlerOf (x .asker)) (handlerOf a)) p .0))
+  holding-same a = some-same (holdsOn t (handlerOf a)) (λ x p. open-thread t x (and-yes (openOn t x) (eqb (handlerOf (x .asker)) (handlerOf a)) p .0))
 
   pub answerable-same : (a : ℕ) → answerable l a t ≡ answerable m a t
-  answerable-same a = first-same (asksExactly a t) (λ x p. open-thread x (and-yes (openOn t x) (eqb (x .asked) a) p .0))
+  answerable-same a = first-same (asksExactly a t) (λ x p. open-thread t x (and-yes (openOn t x) (eqb (x .asked) a) p .0))
 
   owed-same : (a : ℕ) → someOf (owesExactly a t) l ≡ someOf (owesExactly a t) m
   owed-same a = some-same (owesExactly a t) (λ x p. and-yes (isOwed x) (onThread t x) (and-yes (owedOn t x) (eqb (x .asked) a) p .0) .1)

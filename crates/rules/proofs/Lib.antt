@@ -13,3 +13,6 @@ pub mod Numbers
 pub mod After
 pub mod Sums
 pub mod Untouched
+pub mod Opening
+pub mod Bits
+pub mod Excluded

@@ -5,8 +5,11 @@ use mathlib.Core.Path.{_≡_, refl, ap, _∙_}
 use mathlib.Core.Bool.{true, false}
 use mathlib.Core.List.{List, [], _∷_}
 use mathlib.Core.Option.{none, some}
+use lib.Dec.{eqb}
 use lib.ListN.{length}
+use borrow.Author.Tests.{eqb-true, ne-eqb}
 use Rattle.lists.specs.Lists.{someOf}
+use Rattle.lists.proofs.Tests.{split}
 use Rattle.tapa.specs.Address.{categoryOf, handlerOf}
 use Rattle.tapa.specs.Numbers.{wordAt}
 use Rattle.tapa.specs.Said.{refused, says, passed, answered, swallowed, event, turned, given, reset}
@@ -18,7 +21,7 @@ use Rattle.message.specs.Message.{readOf, partOf, codeOf, responseOf}
 use Rattle.message.proofs.Laws.{reads-short, reads-long, reads-fewer, reads-more}
 use Rattle.table.specs.Table.{listed, openedAt}
 use Rattle.place.specs.declared.Place.{Place}
-use Rattle.places.specs.Places.{owesExactly, standsIn, holding}
+use Rattle.places.specs.Places.{openOn, owesExactly, standsIn, holding}
 use Rattle.rules.specs.View.{View}
 use Rattle.rules.specs.Judge.{answerable, isAddEvent, closedTo, mayAsk, busy, judgeKind, message, giveUp, replaced, judge}
 use Rattle.rules.specs.Said.{saidOutcome}
@@ -26,6 +29,17 @@ use Rattle.rules.proofs.Steps.{message-small, message-unread, message-u
 use Rattle.rules.proofs.Steps.{event-taken, event-refused, closed-to, turned-a, turned-b, turned-c, turned-d, turned-e, passes}
 use Rattle.rules.proofs.Steps.{late-swallowed, late-stray, response-missing, response-late, response-holding, response-wrong, response-answered}
 use Rattle.rules.proofs.Steps.{give-up-small, give-up-thread, give-up-none, give-up-holding, give-up-given, replaced-unlisted, replaced-stands, replaced-reset}
+
+-- what is no message of type 'C0' to handler '0700' is no Add Event
+adds-none : (h : Head) → (h .kind ≡ 0xC0 → handlerOf (h .destination) ≡ 0x0700 → ⊥) → isAddEvent h ≡ false
+adds-none h n =
+    split (eqb (h .kind) 0xC0)
+    (λ p. rw p (ne-eqb (handlerOf (h .destination)) 0x0700 (λ d. n (eqb-true (h .kind) 0xC0 p) d)))
+    (λ p. rw p)
+
+-- rule d, 'for an empty tree, category 01'
+pub begins-by-01 : (places : List Place) (t a : ℕ) → someOf (openOn t) places ≡ false → mayAsk places t a ≡ eqb (categoryOf a) 0x01
+begins-by-01 places t a e = rw e
 
 -- ---- a message
 module _ (v : View) (room : ℕ) (s : List ℕ) where
@@ -84,15 +98,21 @@ module _ (v : View) (room : ℕ) (s : List ℕ) where
 
           module _ (k : h .kind ≡ 0xFF → ⊥) where
             -- Type 'C0' to handler '0700'
-            module _ (e : isAddEvent h ≡ true) where
+            module _ (c : h .kind ≡ 0xC0) (d : handlerOf (h .destination) ≡ 0x0700) where
+              adds : isAddEvent h ≡ true
+              adds = rw (c, d)
+
               pub message-event : openedAt 0x0700 (v .rows) ≡ true → saidOutcome (judge v room (message s)) ≡ says event []
-              message-event o = ap saidOutcome (by-kind ∙ kind-event v h _ k e ∙ event-taken (v .rows) o)
+              message-event o = ap saidOutcome (by-kind ∙ kind-event v h _ k adds ∙ event-taken (v .rows) o)
 
               pub message-10 : openedAt 0x0700 (v .rows) ≡ false → saidOutcome (judge v room (message s)) ≡ refused 10
-              message-10 o = ap saidOutcome (by-kind ∙ kind-event v h _ k e ∙ event-refused (v .rows) o)
+              message-10 o = ap saidOutcome (by-kind ∙ kind-event v h _ k adds ∙ event-refused (v .rows) o)
 
             -- Any other type: the rules with their codes
-            module _ (e : isAddEvent h ≡ false) where
+            module _ (other : h .kind ≡ 0xC0 → handlerOf (h .destination) ≡ 0x0700 → ⊥) where
+              e : isAddEvent h ≡ false
+              e = adds-none h other
+
               pub message-a : listed (handlerOf (h .destination)) (v .rows) ≡ false
                   → saidOutcome (judge v room (message s)) ≡ says turned (responseOf (h .source) (h .destination) (h .thread) 0xFFF1)
               message-a x = ap saidOutcome (by-kind ∙ kind-command v h _ k e ∙ turned-a v h x)

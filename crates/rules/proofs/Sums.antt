@@ -4,7 +4,7 @@ use mathlib.Core.Path.{_≡_, refl}
 use mathlib.Core.Bool.{Bool, true, false}
 use mathlib.Core.List.{List, [], _∷_}
 use native.Mathlib.Omega.{arith}
-use lib.ListN.{length, take}
+use lib.ListN.{length, take, drop}
 use Rattle.tapa.specs.Address.{categoryOf, handlerOf, multi}
 use Rattle.known_types.specs.Types.{own, common}
 use Rattle.tapa.specs.Codes.{mustBeOpened}
@@ -62,8 +62,8 @@ pub record Session : Type 0 where
   pub second-line : Goes one-passed second-call (Passed 0x0001 0x0202 0x45 3) two-passed
   pub third-line : Goes two-passed third-call (Answered 0x0202 0x0001 3 0xFF24) one-passed
   pub fourth-line : Goes one-passed fourth-call (Given 0x0100 0x0001 3) one-owed
-  pub reply : (buffer : List ℕ) → take 10 (written (Given 0x0100 0x0001 3) buffer)
-      ≡ 0x01 ∷ 0x00 ∷ 0x00 ∷ 0x01 ∷ 0xFF ∷ 0x03 ∷ 0x00 ∷ 0x02 ∷ 0xFF ∷ 0xF3 ∷ []
+  pub reply : (buffer : List ℕ) → written (Given 0x0100 0x0001 3) buffer
+      ≡ 0x01 ∷ 0x00 ∷ 0x00 ∷ 0x01 ∷ 0xFF ∷ 0x03 ∷ 0x00 ∷ 0x02 ∷ 0xFF ∷ 0xF3 ∷ drop 10 buffer
   pub waiting : length (waits (one-owed .places)) ≡ 0
   pub owing : length (owings (one-owed .places)) ≡ 1
 
@@ -78,6 +78,13 @@ session = record {
   waiting = refl;
   owing = refl;
 }
+
+-- 'Turned back writes only a response, in the first 10 reply bytes', and a give up likewise: both addresses exact, and the rest of the buffer stays
+pub only-ten : (buffer : List ℕ)
+    → (written (Turned 0x0180 0x0282 3 0xFFF5) buffer ≡ 0x01 ∷ 0x80 ∷ 0x02 ∷ 0x82 ∷ 0xFF ∷ 0x03 ∷ 0x00 ∷ 0x02 ∷ 0xFF ∷ 0xF5 ∷ drop 10 buffer)
+    × (written (Given 0x0180 0x0282 3) buffer ≡ 0x01 ∷ 0x80 ∷ 0x02 ∷ 0x82 ∷ 0xFF ∷ 0x03 ∷ 0x00 ∷ 0x02 ∷ 0xFF ∷ 0xF3 ∷ drop 10 buffer)
+unfolding messageOf responseOf
+only-ten buffer = (refl, refl)
 
 -- ---- 'Knowing a reply by thread alone, or by category: '0202' must not answer for '0282'.'
 
