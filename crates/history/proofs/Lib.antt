@@ -4,7 +4,9 @@ pub mod Bound
 pub mod Old
 pub mod Words
 pub mod Went
+pub mod Never
 pub mod Ends
+pub mod Opening
 pub mod Fates
 pub mod Totals
 pub mod Marks
@@ -12,3 +14,5 @@ pub mod Promise
 pub mod Example
 pub mod Branches
 pub mod Needed
+pub mod Admitted
+pub mod Excluded

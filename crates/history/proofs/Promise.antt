@@ -1,8 +1,11 @@
 -- Demand 3 holds of every history, and of every run of code that meets the contracts.
 use Prim.Native.Nat.{ℕ}
 use mathlib.Core.Path.{_≡_, refl, sym, ap, _∙_}
+use mathlib.Core.Bool.{true}
 use mathlib.Core.List.{List, [], _∷_}
 use native.Mathlib.Omega.{arith}
+use lib.ListN.{length}
+use Rattle.lists.specs.Lists.{In}
 use Rattle.table.specs.declared.Row.{Row}
 use Rattle.table.specs.Table.{Proper}
 use Rattle.rules.specs.View.{View}
@@ -10,17 +13,21 @@ use Rattle.rules.specs.Judge.{judge}
 use Rattle.rules.specs.Says.{Says}
 use Rattle.rules.proofs.Says.{says}
 use Rattle.rules.proofs.Words.{worded}
-use Rattle.history.specs.History.{Step, Entry, entry, viewAfter, history, Each, Went}
+use Rattle.history.specs.History.{Step, Entry, entry, viewAfter, history, Each, isPassed, Sent, starts, Went}
 use Rattle.history.specs.Marks.{Honest}
+use Rattle.history.specs.Never.{EventOr10, IsCommand, SentAs}
+use Rattle.history.specs.Opening.{rowsIn}
 use Rattle.history.specs.Promise.{Ran, begun, going, EndsOne, ConcernsIt, EachBears, Promise, Bounded}
 use Rattle.history.proofs.Went.{went}
 use Rattle.history.proofs.Law.{conduct-after}
 use Rattle.history.proofs.Bound.{bounded-after}
 use Rattle.history.proofs.Told.{waits-told, owings-told, how-many-open}
 use Rattle.history.proofs.Ends.{ends-exactly-one, ends-its-own}
+use Rattle.history.proofs.Opening.{rows-told}
 use Rattle.history.proofs.Fates.{fate}
 use Rattle.history.proofs.Totals.{balanced}
 use Rattle.history.proofs.Marks.{marks}
+use Rattle.history.proofs.Never.{event-or-10, passed-is, sent-as, all-answerable}
 
 -- what holds of the next entry, after any steps, holds of each
 each : (P : List Entry → Entry → Type 0) (rows : List Row)
@@ -45,6 +52,10 @@ promise rows steps = record {
   to-asker = each ConcernsIt rows (ends-its-own rows) steps;
   went = each (λ h e. Went e) rows (λ before s. went s _ (says (viewAfter rows before) (s .room) (s .call))) steps;
   bytes = each (λ h e. Says (e .step .call) (e .outcome)) rows (λ before s. says (viewAfter rows before) (s .room) (s .call)) steps;
+  event-or-10 = each (λ h e. EventOr10 e) rows (λ before s. event-or-10 (viewAfter rows before) s) steps;
+  sent-as = each (λ h e. (c : Sent) → In c (starts (length h) (e .outcome)) → SentAs e (length h) c) rows (λ before s. sent-as (viewAfter rows before) s _) steps;
+  passed-is = each (λ h e. isPassed (e .outcome) ≡ true → IsCommand e) rows (λ before s. passed-is (viewAfter rows before) s) steps;
+  answerable = all-answerable rows steps;
   balance = omega (arith, balanced rows steps, how-many-open rows steps);
 }
 
@@ -71,3 +82,6 @@ bounded-ran rows p r = let i = same rows r in rw (i .entries, i .view) at (bound
 
 pub marks-ran : (mark : ℕ → ℕ) (rows : List Row) {h : List Entry} {v : View} → Ran rows h v → Honest mark h → EachBears mark h
 marks-ran mark rows r m = let i = same rows r in rw (i .entries) at (each-bears mark rows (i .steps) (rw (i .entries) m))
+
+pub rows-ran : (rows : List Row) {h : List Entry} {v : View} → Ran rows h v → v .rows ≡ rowsIn rows h
+rows-ran rows r = let i = same rows r in rw (i .entries, i .view) at (rows-told rows (i .steps))

@@ -4,7 +4,7 @@ use mathlib.Core.Path.{_≡_}
 use mathlib.Core.Bool.{true}
 use mathlib.Core.List.{List, [], _∷_}
 use lib.ListN.{length}
-use Rattle.lists.specs.Lists.{In}
+use Rattle.lists.specs.Lists.{In, All}
 use Rattle.message.specs.declared.Head.{Head}
 use Rattle.table.specs.declared.Row.{Row}
 use Rattle.table.specs.Table.{Proper}
@@ -15,9 +15,10 @@ use Rattle.rules.specs.Judge.{judgeCommand, judge}
 use Rattle.rules.specs.Apply.{applied}
 use Rattle.rules.specs.Old.{oldCommand}
 use Rattle.rules.specs.Says.{Says}
-use Rattle.rules.specs.Words.{Worded, singles, multis, most}
-use Rattle.history.specs.History.{Step, Entry, goesOut, Each, Sent, sent, openIn, owedIn, asWaits, asOwings, ended, endsOne, isPassed, isAnswered, isGiven, Fate, Went, Concerns, total}
+use Rattle.rules.specs.Words.{Worded, singles, multis}
+use Rattle.history.specs.History.{Step, Entry, goesOut, Each, Sent, starts, sent, openIn, owedIn, asWaits, asOwings, ended, endsOne, isPassed, isAnswered, isGiven, Fate, Went, Concerns, total}
 use Rattle.history.specs.Marks.{Bears}
+use Rattle.history.specs.Never.{EventOr10, IsCommand, SentAs, Answerable}
 
 -- calls that were made one after the other, from a fresh router over these rows, each with its outcome, with what went out, and with the next state's view: what
 -- the contracts of the router's methods tell of a run of the code
@@ -53,6 +54,12 @@ pub record Promise (h : List Entry) (v : View) : Type 0 where
   pub went : Each (λ older e. Went e) h
   -- the outcomes carry what the calls' bytes say
   pub bytes : Each (λ older e. Says (e .step .call) (e .outcome)) h
+  -- Add Event, 'which has no response table', is an event or 10; a passed command is its message, and that is no response and no Add Event; nor does
+  -- one stand among the places
+  pub event-or-10 : Each (λ older e. EventOr10 e) h
+  pub sent-as : Each (λ older e. (c : Sent) → In c (starts (length older) (e .outcome)) → SentAs e (length older) c) h
+  pub passed-is : Each (λ older e. isPassed (e .outcome) ≡ true → IsCommand e) h
+  pub answerable : All Answerable (v .places)
   -- accepted = answered + given up + waiting, all counted from the history
   pub balance : total isPassed h ≡ total isAnswered h + total isGiven h + length (openIn h)
 
@@ -61,5 +68,5 @@ pub record Promise (h : List Entry) (v : View) : Type 0 where
 pub record Bounded (rows : List Row) (h : List Entry) (v : View) : Type 0 where
   pub table : Proper (v .rows)
   pub bound : length (openIn h) + length (owedIn h) ≤ singles rows + 8 * multis rows
-  pub few : length (v .places) ≤ most
+  pub few : length (v .places) ≤ 44
   pub without-f : (command : Head) → oldCommand v command ≡ judgeCommand v command
