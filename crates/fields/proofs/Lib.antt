@@ -2,3 +2,4 @@ pub mod Unfold
 pub mod Left
 pub mod Contents
 pub mod Bytes
+pub mod Written

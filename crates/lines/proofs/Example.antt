@@ -29,6 +29,12 @@ pub a-step : (line 1 (Passed 0x0100 0x0202 0x45 3) ≡ ascii "1 passed 0202\n")
 unfolding wordOf textOf responseOf messageOf decimalOf
 a-step = (refl, refl, refl, refl, refl, refl, refl)
 
+-- 'with the destination': all sixteen bits of it, whatever the address
+pub with-the-destination : (line 1 (Passed 0x0181 0x0282 0x45 3) ≡ ascii "1 passed 0282\n") × (line 2 (Answered 0x0282 0x0181 3 0) ≡ ascii "2 answered 0181\n")
+    × (line 3 (Passed 0x0100 0x04EF 0x61 3) ≡ ascii "3 passed 04EF\n")
+unfolding wordOf textOf decimalOf
+with-the-destination = (refl, refl, refl)
+
 -- a refusal's number is decimal: '9 refused 19' and LF, byte for byte
 pub nineteen : line 9 (Refused MoreThanAnnounced) ≡ 0x39 ∷ 0x20 ∷ 0x72 ∷ 0x65 ∷ 0x66 ∷ 0x75 ∷ 0x73 ∷ 0x65 ∷ 0x64 ∷ 0x20 ∷ 0x31 ∷ 0x39 ∷ 0x0A ∷ []
 unfolding textOf decimalOf

@@ -5,7 +5,7 @@ use mathlib.Core.List.{List, [], _∷_, _++_}
 use lib.ListN.{length}
 use borrow.Author.Tests.{lt-ltb, le-ltb}
 use Rattle.tapa.specs.Address.{categoryOf, subAddressOf, handlerOf, multi}
-use Rattle.tapa.specs.declared.Refusal.the-variants.{Repeat}
+use Rattle.tapa.specs.declared.Refusal.the-variants.{RowCountOrShape, Repeat}
 use Rattle.known_types.specs.Types.{own, common}
 use Rattle.message.specs.Message.{readOf, partOf, codeOf}
 use Rattle.table.specs.Table.{shaped, judgeTable}
@@ -77,6 +77,25 @@ repeated = refl
 pub torn : runOf (kiosk ++ (kiosk ++ (0x01 ∷ 0x00 ∷ []))) ≡ Broken 3 ∷ []
 unfolding runOf fileOf rowOf
 torn = refl
+
+-- before the first later field is judged, whatever that is: of an unknown tag, or cut
+pub repeated-first : (runOf (kiosk ++ (kiosk ++ (0x05 ∷ 0x00 ∷ 0x00 ∷ []))) ≡ Refused Repeat ∷ []) × (runOf (kiosk ++ (kiosk ++ (0x02 ∷ 0x00 ∷ []))) ≡ Refused Repeat ∷ [])
+unfolding runOf fileOf rowOf stepOf shaped judgeTable categoryOf subAddressOf
+repeated-first = (refl, refl)
+
+-- or at the end; an empty input has no row
+pub repeated-alone : (runOf (kiosk ++ kiosk) ≡ Refused Repeat ∷ []) × (runOf [] ≡ Refused RowCountOrShape ∷ [])
+unfolding runOf fileOf rowOf shaped judgeTable categoryOf subAddressOf
+repeated-alone = (refl, refl)
+
+-- rows alone: totals of nothing; 'Neither prints totals': a step, and a broken field after it
+pub rows-alone : runOf (kiosk ++ reader) ≡ Over (record { accepted = 0; answered = 0; given = 0; waiting = 0; owing = 0 }) ∷ []
+unfolding runOf fileOf rowOf shaped judgeTable categoryOf subAddressOf multi
+rows-alone = refl
+
+pub broken-last : runOf (kiosk ++ (reader ++ (asks ++ (0x05 ∷ 0x00 ∷ 0x00 ∷ asks)))) ≡ Came 1 (Passed 0x0100 0x0202 0x45 3) ∷ Broken 4 ∷ []
+unfolding runOf fileOf rowOf stepOf shaped judgeTable readOf partOf codeOf categoryOf subAddressOf handlerOf multi own common busy judgeCommand judgeKind judgeRead judgeMessage
+broken-last = refl
 
 -- and all of it after the length
 pub too-long : (s : List ℕ) → 65536 < length s → runOf s ≡ TooLong ∷ []
