@@ -4,4 +4,7 @@ pub mod Used
 pub mod Cheats
 pub mod Stored
 pub mod Lasting
+pub mod Refusing
+pub mod Carrying
+pub mod Queued
 pub mod Demands

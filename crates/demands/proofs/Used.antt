@@ -9,10 +9,11 @@ use Rattle.tapa.specs.Address.{handlerOf}
 use Rattle.message.specs.Message.{messageOf, responseOf}
 use Rattle.table.specs.declared.Row.{Row}
 use Rattle.table.specs.declared.Rows.{Rows}
-use Rattle.table.specs.declared.SetUp.{SetUp}
-use Rattle.table.specs.Table.{Held, Settled, noRows, listed}
+use Rattle.table.specs.Table.{Held, noRows, listed}
 use Rattle.table.proofs.Judged.{none-proper}
 use Rattle.table.proofs.Read.{none-held}
+use Rattle.setup.specs.declared.SetUp.{SetUp}
+use Rattle.setup.specs.Setup.{Settled}
 use Rattle.places.specs.Places.{standsIn}
 use Rattle.rules.specs.View.{View}
 use Rattle.rules.specs.declared.Outcome.{Outcome}
@@ -25,8 +26,9 @@ use Rattle.start.specs.Start.{blank, startFrom, startWith, startOf}
 use Rattle.start.proofs.Starts.{fresh-lawful, from-law, start-law, lent-law}
 use Rattle.history.specs.History.{Entry, goesOut}
 use Rattle.history.specs.Marks.{Honest}
+use Rattle.history.specs.Opening.{rowsIn}
 use Rattle.history.specs.Promise.{Ran, begun, going, EachBears, Promise, Bounded}
-use Rattle.history.proofs.Promise.{promise-ran, bounded-ran, marks-ran}
+use Rattle.history.proofs.Promise.{promise-ran, bounded-ran, marks-ran, rows-ran}
 use Rattle.demands.specs.Used.{Fresh, made, Used, started, routed, gave-up, was-replaced}
 
 -- ---- the public starts: over no rows, from what set-up hands back, over rows by value, and over lent rows (`start_from` after `setup::set_up`)
@@ -105,3 +107,6 @@ module _ (first : Router) (f : Fresh first) where
 
   pub marks-used : (mark : ℕ → ℕ) {h : List Entry} {r : Router} → Used first h r → Honest mark h → EachBears mark h
   marks-used mark u m = marks-ran mark rows (used-ran u) m
+
+  pub rows-used : {h : List Entry} {r : Router} → Used first h r → viewOf r .rows ≡ rowsIn rows h
+  rows-used u = rows-ran rows (used-ran u)
