@@ -121,6 +121,15 @@ fn tell_turn(words: &mut [u8], at: usize, sheet: &[u8], router: Router, came: Ar
     sentences::say(words, at, sheet, &values)
 }
 
+// A handler is closed. Of the event queue it is said that it stays so: it does not know Open Handler.
+fn tell_closed(words: &mut [u8], at: usize, sheet: &[u8], handler: u16) -> usize {
+    let next = sentences::say(words, at, sheet, &[sentences::IS_CLOSED, handler as usize]);
+    if handler == tapa::EVENT_HANDLER {
+        return sentences::say(words, next, sheet, &[sentences::QUEUE_STAYS_CLOSED]);
+    }
+    next
+}
+
 // Why a command was turned back, by its code.
 pub fn tell_turned(
     words: &mut [u8],
@@ -145,7 +154,7 @@ pub fn tell_turned(
             sheet,
             &[sentences::NOT_KNOWN, name, handler],
         ),
-        tapa::MUST_BE_OPENED => sentences::say(words, at, sheet, &[sentences::IS_CLOSED, handler]),
+        tapa::MUST_BE_OPENED => tell_closed(words, at, sheet, tapa::handler(came.to)),
         tapa::HANDLER_ERROR => tell_turn(words, at, sheet, router, came),
         tapa::HANDLER_BUSY => tell_busy(words, at, sheet, router, came),
         _ => at,
@@ -245,7 +254,7 @@ fn tell_no_queue(words: &mut [u8], at: usize, sheet: &[u8], router: Router) -> u
     let count = router.count;
     let queue = tapa::EVENT_HANDLER;
     if count <= 16 && router_rows::is_listed(&cells, count, queue) {
-        return sentences::say(words, at, sheet, &[sentences::IS_CLOSED, queue as usize]);
+        return tell_closed(words, at, sheet, queue);
     }
     sentences::say(words, at, sheet, &[sentences::NO_SUCH, queue as usize])
 }

@@ -118,6 +118,8 @@ pub const WAITS_FOR: usize = names::FREE + 55;
 
 pub const TORN: usize = names::FREE + 56;
 
+pub const QUEUE_STAYS_CLOSED: usize = names::FREE + 57;
+
 // What came.
 fn write_arrivals(sheet: &mut [u8]) {
     show_sheet::engrave(
@@ -164,7 +166,8 @@ fn write_causes(sheet: &mut [u8]) {
         |why: @ asks itself|why: only a till driver can begin a thread|why: @ itself still waits, for @\
         |why: on this thread @ was asked, and not @|why: nobody waits for @ on this thread\
         |why: it was asked by @|why: @ has to answer @ on thread #|why: @ waits for @ on thread #\
-        |thread #: from the $ @$ to the $ @$: bytes of data announced: #, came: #",
+        |thread #: from the $ @$ to the $ @$: bytes of data announced: #, came: #\
+        |the event queue cannot be opened again: give 0700 open, and do not declare it replaced",
     );
 }
 

@@ -42,6 +42,14 @@ fn say_data(words: &mut [u8], at: usize, sheet: &[u8], length: usize) -> usize {
     sentences::say(words, at, sheet, &[sentences::BYTES, length])
 }
 
+// Of the event queue: that it stays closed.
+fn say_if_queue(words: &mut [u8], at: usize, sheet: &[u8], handler: u16) -> usize {
+    if handler == tapa::EVENT_HANDLER {
+        return sentences::say(words, at, sheet, &[sentences::QUEUE_STAYS_CLOSED]);
+    }
+    at
+}
+
 // ---- what came
 
 // Who says something to whom: the sentence and its first seven values.
@@ -395,6 +403,11 @@ fn tell_refused(
     reasons::tell_refused(words, next, sheet, before, came, number)
 }
 
+fn tell_reset(words: &mut [u8], at: usize, sheet: &[u8], handler: u16) -> usize {
+    let next = say_of(words, at, sheet, sentences::RESET, handler);
+    say_if_queue(words, next, sheet, handler)
+}
+
 // What became of a step.
 fn tell_outcome(
     words: &mut [u8],
@@ -420,7 +433,7 @@ fn tell_outcome(
         Outcome::Event => sentences::say(words, at, sheet, &[sentences::EVENT]),
         Outcome::Turned { code, .. } => tell_turned(words, at, sheet, came, code, before),
         Outcome::Given { asker, asked, .. } => tell_given(words, at, sheet, asker, asked),
-        Outcome::Reset { handler } => say_of(words, at, sheet, sentences::RESET, handler),
+        Outcome::Reset { handler } => tell_reset(words, at, sheet, handler),
         Outcome::Refused(refusal) => tell_refused(words, at, sheet, came, refusal, before),
     }
 }
@@ -568,7 +581,11 @@ fn tell_row(
         mark(address),
         names::device_name(address),
     ];
-    sentences::say(words, at, sheet, &values)
+    let next = sentences::say(words, at, sheet, &values);
+    if opened {
+        return next;
+    }
+    say_if_queue(words, next, sheet, address)
 }
 
 // What is said of the rows of a file, from the start of the buffer. Of rows that are too many only
