@@ -4,6 +4,8 @@
 // high one adds up the low one on its way; so a change of a single byte moves the low sum, and is
 // seen whatever the bytes are (proofs/Seen.antt, `one-byte-seen`). Of two changed bytes or more
 // nothing is claimed. It keeps nobody out who wants to change a file: it has no key.
+#![tactic(auto)]
+
 ghost use Rattle.std.specs.Prelude.{◌%◌, ◌+◌, ◌<◌, ◌≤◌, ◌≡◌};
 ghost use Rattle.adler.specs.Adler.{adler32};
 

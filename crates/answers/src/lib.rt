@@ -3,6 +3,8 @@
 // Every part has answers of its own. Here each becomes one `Came`, a word with its numbers, so that
 // one function writes them all. Each function that writes takes the place of the next byte and
 // answers the place after its text, as those of crate `text` do.
+#![tactic(auto)]
+
 use cutter::{Cut, Start};
 use joiner::Keeping;
 use message::{Reading, Writing};

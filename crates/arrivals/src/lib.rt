@@ -2,6 +2,8 @@
 //
 // The step is read by the readers that the session program stands on, crates `fields` and `message`;
 // here its parts are only laid side by side. What becomes of the step is not asked here.
+#![tactic(auto)]
+
 use fields::NextStep;
 use message::{Coded, Head, Reading};
 

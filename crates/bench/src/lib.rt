@@ -9,6 +9,8 @@
 // is one of its book and its area), every field is counted from 1, the line of a whole field begins
 // with its number, and every line lies in the lent buffer. The parts promise what they answer; crate
 // `answers` writes it.
+#![tactic(auto)]
+
 ghost use Rattle.std.specs.Prelude.{◌≡◌, ◌+◌, ◌≤◌, length, replicate};
 ghost use Rattle.router.specs.Router as routers;
 ghost use Rattle.book.specs.Book as books;

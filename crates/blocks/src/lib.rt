@@ -11,6 +11,8 @@
 //
 // Here are the definitions and their laws. Crate `show_notes` sets words in, crate `show_blocks` writes
 // the blocks.
+#![tactic(auto)]
+
 use run::Session;
 
 // How many bytes of a page are used, whether it was full before the end was seen, and the next state.

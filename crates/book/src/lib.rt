@@ -8,6 +8,8 @@
 // The code, but for `wide`, is in the rooms `store_kinds` (the table of files) and `store_entries` (one entry more, less
 // or another, which entry it is, and which numbers are free). Each function there is total: past the end
 // there is an entry of zeros, and a change there is none.
+#![tactic(auto)]
+
 ghost use Rattle.std.specs.Prelude.{◌≡◌};
 
 // A file's row in the table: whether it is made, and the longest key and data that it takes.

@@ -4,6 +4,8 @@
 // answers, what a response is cut into (specs), and the laws of it: the commands together carry the
 // whole response, and no more are handed out than it takes (proofs/Whole.antt). The code is in
 // psam_commands.
+#![tactic(auto)]
+
 use tapa::Refusal;
 
 // Whether a message can be cut: a response's thread, or why not.

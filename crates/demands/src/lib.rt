@@ -9,3 +9,4 @@
 // it keeps is the promise of room `history`.
 //
 // There is no code here: each room proves its own part, and this one cites them.
+#![tactic(auto)]

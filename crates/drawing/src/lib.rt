@@ -8,6 +8,8 @@
 // be answered, dotted ones for what is owed, a grey band where a handler is closed.
 //
 // `x` is the left edge of a column, 16 left of its line; `y` is the top of a row, 20 above its arrow.
+#![tactic(auto)]
+
 use arrivals::Arrival;
 use place::Place;
 use router::Router;

@@ -3,6 +3,8 @@
 // A queue goes in by value and comes back by value beside the answer; in between its array is lent,
 // and worked on in place. A command is judged first, and nothing is done; then what was decided is
 // done, and then it is answered. The definitions and laws are room `events`'s.
+#![tactic(auto)]
+
 ghost use Rattle.std.specs.Prelude.{◌≡◌, ◌≤◌, length};
 ghost use Rattle.replies.specs.Replies.{Answers};
 ghost use Rattle.queue.specs.Places.{queue_of, events_in, Lawful, HoldsAt};

@@ -2,6 +2,8 @@
 //
 // Nothing is looked up in the queue here: a message alone decides. What a command then comes to is
 // room `event_answers`'s; the definitions are room `events`'s.
+#![tactic(auto)]
+
 ghost use Rattle.std.specs.Prelude.{◌≡◌, ◌+◌, ◌≤◌, length};
 ghost use Rattle.events.specs.Events.{elsewhere, checked, event_at, command_of};
 

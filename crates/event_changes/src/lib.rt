@@ -4,6 +4,8 @@
 // writes one place. Taking the oldest frees its place, and no event moves; taking another one closes
 // a gap, and the younger events move. What is then held, and where the ring begins, is said of the
 // list of events: rooms `queue` and `events`.
+#![tactic(auto)]
+
 ghost use Rattle.std.specs.Prelude.{[], ◌-◌, ◌<◌};
 ghost use Rattle.lists.specs.Lists.{without, without_at};
 ghost use Rattle.queue.specs.Events.{added, meets, like_of};

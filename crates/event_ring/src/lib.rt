@@ -2,6 +2,8 @@
 //
 // The array is lent, and the stretch says which of its places hold events. What the answers are is
 // said of the list of events: rooms `queue` and `events`. The changes are room `event_changes`'s.
+#![tactic(auto)]
+
 ghost use Rattle.std.specs.Prelude.{◌≡◌, [], ltb};
 ghost use Rattle.lists.specs.Lists.{first, find};
 ghost use Rattle.queue.specs.Events.{most, oldest, meets, sought};

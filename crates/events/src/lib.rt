@@ -8,6 +8,8 @@
 //
 // The code is in the rooms `event_asked` (what a message asks) and `event_answers` (all that it comes
 // to).
+#![tactic(auto)]
+
 use queue::{Event, Queue, Search, Stretch};
 use replies::Answer;
 

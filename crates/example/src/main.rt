@@ -1,6 +1,8 @@
 // A kiosk in a few lines: a till driver asks its security module, which answers.
 //
 // docs/LIBRARY.md walks through it. Each line printed is what is to be sent on.
+#![tactic(auto)]
+
 ghost use Rattle.router.specs.Router.{Lawful};
 
 use libc::{STDERR_FILENO, STDOUT_FILENO};

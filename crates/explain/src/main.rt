@@ -8,6 +8,7 @@
 //
 // The sheet of sentences is written before anything is read. No contract can say what is read or
 // written; the last that is proved is that of crate `show_blocks`. `show` writes each part once, in order.
+#![tactic(auto)]
 
 // Prints the blocks of one input; false where they cannot be written.
 fn show(sheet: &[u8; 65536], input: &[u8], page: &mut [u8; 65536], words: &mut [u8; 8192]) -> bool {

@@ -7,6 +7,8 @@
 //
 // A broken row is told apart from any other broken field, since it comes before the table is
 // checked. The file as a list, and that these answers unfold it, is in specs/ and proofs/Unfold.antt.
+#![tactic(auto)]
+
 ghost use Rattle.std.specs.Prelude.{◌≡◌, ◌+◌, ◌<◌, ◌≤◌, length, take, drop};
 ghost use Rattle.fields.specs.Places.{read_at, row_at, step_at, row_placed, step_placed};
 ghost use Rattle.fields.specs.Fields.{row_of, step_of};

@@ -8,6 +8,8 @@
 //
 // Delete File and Clear are one walk over the entries, however many files and records go: the files'
 // rows are taken out of the table, and then every entry whose file is not made goes.
+#![tactic(auto)]
+
 ghost use Rattle.std.specs.Prelude.{◌≡◌};
 ghost use Rattle.book.specs.Book.{Lawful, Shaped, entries_of};
 ghost use Rattle.file_commands.specs.Erasing.{clear_area, clear_of, code_of_create, create_of, delete_files_area, delete_files_of, left_of, swept_area, swept_book};

@@ -8,3 +8,4 @@
 // specs/Sound.antt is the law that every store keeps, proofs/Sounds.antt that every command keeps
 // it. Rooms record_commands, file_commands and store prove that the code does to its book and its
 // lent area what is said here of the list.
+#![tactic(auto)]

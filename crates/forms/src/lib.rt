@@ -16,6 +16,7 @@
 //
 // Here are the definitions and their laws. Crate `show_sheet` writes a sheet and finds a wording in it,
 // crate `show_forms` writes the forms.
+#![tactic(auto)]
 
 // A cell that is being written, and the place of its next byte.
 #[derive(Drop)]

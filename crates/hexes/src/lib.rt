@@ -7,6 +7,7 @@
 // Here stand the answers of both directions, what a text reads as and how bytes are written (specs), and
 // the laws of both: what is written reads as the same bytes, whatever they are (proofs/Back.antt,
 // `reads-back`). The code is in session_hex_reader and session_hex_writer.
+#![tactic(auto)]
 
 // ---- from text to bytes
 

@@ -11,3 +11,4 @@
 //
 // There is no code here, and none below: it speaks of the rules alone. specs/Promise.antt says it in
 // one record; room `demands` has it of every run of the code.
+#![tactic(auto)]

@@ -9,6 +9,8 @@
 // theorems are in proofs/Trips.antt: what is saved is loaded again, the very book and the same
 // records (`load-save`, `load-save-view`); what is loaded was saved (`accepted-image`); two stores
 // with one image are one store (`one-image`); a single changed byte is seen (`one_byte`).
+#![tactic(auto)]
+
 ghost use Rattle.std.specs.Prelude.{◌*◌, ◌+◌, ◌<◌, ◌≤◌, [], ◌≡◌, drop, length};
 ghost use Rattle.book.specs.Book.{Limits, Shaped, book_of, entries_of};
 ghost use Rattle.image.specs.Image.{Storable, is_whole, load_area, load_of, poured, refused, saved_in, saved_of, slot_bytes};

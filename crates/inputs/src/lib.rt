@@ -11,6 +11,8 @@
 //
 // No contract can say what is read or written, so those here speak of lengths only, and of the number of
 // the next argument, which grows.
+#![tactic(auto)]
+
 ghost use Rattle.std.specs.Prelude.{◌≤◌, ◌<◌};
 ghost use Rattle.io.specs.Counts.{IsPrefixLen};
 

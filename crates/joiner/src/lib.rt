@@ -5,6 +5,8 @@
 // keeps (specs), and the laws of it: every way of cutting a message joins to the same message
 // (proofs/Delivered.antt), and a response goes to the source that was kept last on its thread
 // (proofs/ToLast.antt). The code is in psam_pieces, psam_whole and psam_sources.
+#![tactic(auto)]
+
 use tapa::Refusal;
 
 // How many bytes are joined, and for each thread whether a source is kept, and which.

@@ -3,6 +3,8 @@
 // The code is a decision on the category and then on the type, with ranges; specs/Types.antt has
 // the rows as the tables print them. That the two agree on every byte is computed, stretch by
 // stretch: proofs/Stretch.antt.
+#![tactic(auto)]
+
 ghost use Rattle.std.specs.Prelude.{◌≡◌};
 ghost use Rattle.known_types.specs.Types.{common, own, known};
 

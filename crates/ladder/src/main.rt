@@ -7,6 +7,7 @@
 //
 // The sheet of shapes is written before anything is read. No contract can say what is read or written;
 // the last that is proved is that of crate `picture`. `show` writes each part once, in order.
+#![tactic(auto)]
 
 // Draws the rows of one input; false where they cannot be written.
 fn show_rows(

@@ -13,6 +13,8 @@
 // asks of the entries is just the law of a store (room image, proofs/Trips.antt). It looks at the
 // bytes where they stand and changes nothing. The readers are total: past the end there is a row
 // that is not made, and an entry of zeros.
+#![tactic(auto)]
+
 ghost use Rattle.std.specs.Prelude.{◌+◌, ◌<◌, ◌≤◌, ◌≡◌, get_or, length, take};
 ghost use Rattle.book.specs.Book.{kind_of, no_kind};
 ghost use Rattle.layout.specs.Judged.{clashes, count_in, entries_in, entry_in, fits, kind_fits, row_fits, slots_in, sound, sum_fits, table_fits, table_in, twin_from, verdict_of};

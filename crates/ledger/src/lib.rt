@@ -10,6 +10,8 @@
 // the one that they leave: proofs/Text.antt, `whole-text`, `whole-store`; after each page, `so_far`.
 // The same of a plain list of files: proofs/Plain.antt. The code that fills the pages is room
 // `store_lines`'s.
+#![tactic(auto)]
+
 use book::Book;
 
 // The place of the next field in an input, and its number, all fields counted from 1.

@@ -6,6 +6,8 @@
 // Each function writes one line into a lent buffer from a place on, and answers the place after it. The
 // contracts are the equations of crate `text`, so every byte of the buffer is fixed, also where it is too
 // small.
+#![tactic(auto)]
+
 ghost use Rattle.std.specs.Prelude.{◌≡◌, ◌++◌};
 ghost use Rattle.text.specs.Text.{pen, puts, decimal_of, hexes_of, word_hex_of};
 ghost use Rattle.rules.specs.Said.{said_outcome};

@@ -94,4 +94,4 @@ Bytes s = (i : ℕ) → get_or s i 0 < 256
 
 -- a part that starts at a place of a lent slice: it stands in the same memory, and is no copy
 abbrev pub LiesAt : ℕ → Bor (List ℕ) → Bor (List ℕ) → Type 0
-LiesAt at slice part = part.ptr ≡ (slice.ptr.0, at + slice.ptr.1)
+LiesAt at slice part = part.ref_ptr ≡ (slice.ref_ptr.0, at + slice.ref_ptr.1)

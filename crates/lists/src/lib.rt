@@ -5,6 +5,7 @@
 //
 // Where a list is kept newest first, an element's number is how many older ones there are. In an
 // array that is filled from the start, this number is the element's index.
+#![tactic(auto)]
 
 // Where a walk over a list ended: at the element with this number, or nowhere.
 #[derive(Drop)]

@@ -4,6 +4,8 @@
 // and then the data. Here stand its head, the answers of its reader and of its writer, what bytes read
 // as (specs), and the laws of both: reading and writing undo each other (proofs/Back.antt). The code is
 // in message_reader and message_writer.
+#![tactic(auto)]
+
 use tapa::Refusal;
 
 // What stands before the data.

@@ -2,6 +2,8 @@
 //
 // It takes any bytes and answers the head or a refusal: message `read_of`. The data is handed on as a part
 // of the incoming slice that starts at byte 8, never as a copy.
+#![tactic(auto)]
+
 ghost use Rattle.std.specs.Prelude.{◌≡◌};
 ghost use Rattle.message.specs.Message.{read_of, DataPart, code_of};
 

@@ -1,6 +1,8 @@
 // The writer of a message (Table 3).
 //
 // It fills the start of a lent buffer and leaves every byte after the message as it was: message `Wrote`.
+#![tactic(auto)]
+
 ghost use Rattle.std.specs.Prelude.{◌≡◌, ◌≤◌, length};
 ghost use Rattle.lists.specs.Lists.{onto};
 ghost use Rattle.message.specs.Message.{head_bytes, Wrote, responded};

@@ -6,6 +6,7 @@
 // have the short words of the support book.
 //
 // The cells from `FREE` to 255 are left to the program that draws or explains.
+#![tactic(auto)]
 
 // Where the names of each kind begin.
 pub const NOTHING: usize = 0;

@@ -9,6 +9,8 @@
 // by the number (specs/Free.antt), and the laws: after every call each number is the count of the full
 // walk (proofs/Kept.antt, `counted`), so the answer by the number is the one by the walk
 // (proofs/Free.antt, `free-as-walked`). The code stands in room router_free.
+#![tactic(auto)]
+
 use tapa::Refusal;
 
 // What the question "is it free?" is answered with.

@@ -6,6 +6,8 @@
 //
 // The loop owns the router's arrays and lends them, so that no message copies them: they are copied
 // twice a page.
+#![tactic(auto)]
+
 ghost use Rattle.run.specs.State.{Ready};
 ghost use Rattle.pages.specs.Pages.{Paged};
 

@@ -8,6 +8,8 @@
 // A part is the file's beginning, a page of rows, or its end; the parts in order are the picture. A part
 // longer than its page would be cut. A row is begun while half of the page is free, and the longest row
 // has under a third of one.
+#![tactic(auto)]
+
 ghost use Rattle.run.specs.State.{Ready};
 ghost use Rattle.picture.specs.Picture.{Drawn, Added, Part};
 

@@ -6,6 +6,7 @@
 //
 // The number and the tests that the rules ask of a place are definitions here (specs/). Their laws
 // say each test in plain conditions on the fields (proofs/Words.antt). The code is room router_tests.
+#![tactic(auto)]
 
 // A passed command: exact asker, exact asked address, type, thread, and whether it was given up.
 #[derive(Drop)]

@@ -10,6 +10,7 @@
 //
 // The law of a list (`Lawful`) is that of any array that holds a list (room lists, Arrays). A
 // change keeps the law, and the places with the law leave one array possible: proofs/Once.antt.
+#![tactic(auto)]
 
 // What a thread's tree has of an exact address: the number of the wait that asks it, a leaf; that
 // the handler of that wait holds a question of its own on the thread; or no such wait.

@@ -4,6 +4,7 @@
 // what was read or written; the last word that is proved is that of crate `pages`: the pages of a
 // session, from the first to the last, are the text that its input prescribes. `show` writes each of
 // them once, in order.
+#![tactic(auto)]
 
 // Prints the lines of one input; false where they cannot be written.
 fn show(program: &[u8], input: &[u8], page: &mut [u8; 65536]) -> bool {

@@ -6,6 +6,8 @@
 //
 // `Cutter` holds the data and the place for callers that like to have both in one value. Its
 // functions are thin: they take it apart and call the ones above.
+#![tactic(auto)]
+
 ghost use Rattle.std.specs.Prelude.{◌≡◌, ◌+◌, ◌≤◌, length};
 ghost use Rattle.lists.specs.Lists.{onto};
 ghost use Rattle.cutter.specs.Cutting.{start_of, thread_of, PartToCut, command_head, command_of, cutter_at, HandsOut, Steps, Begins, Firsts};

@@ -6,6 +6,8 @@
 //
 // Of a response that is handed on, the destination becomes the kept source, and the code '0000', which
 // the PSAM leaves out, is put at its end.
+#![tactic(auto)]
+
 ghost use Rattle.std.specs.Prelude.{◌≡◌, ◌+◌, ◌-◌, ◌≤◌, length, take};
 ghost use Rattle.lists.specs.Lists.{onto};
 ghost use Rattle.joiner.specs.Joining.{fresh_joiner, counting, taking_of, joined_with, whole_of, whole_answer, whole_bytes, completed, Joins, PartFor, Asks};

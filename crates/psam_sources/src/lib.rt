@@ -2,6 +2,8 @@
 //
 // A '42' command (ICC Command) says who asks on its thread. Its source is kept until the next one on
 // that thread: joiner `kept_of`. psam_whole reads it when the PSAM's response is joined.
+#![tactic(auto)]
+
 ghost use Rattle.std.specs.Prelude.{◌≡◌, ◌≤◌};
 ghost use Rattle.joiner.specs.Joining.{with_source, kept_of};
 

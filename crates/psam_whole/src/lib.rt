@@ -3,6 +3,8 @@
 // They are a message as it stands, a response with the address that it goes to, or refused: joiner
 // `whole_of`. A response goes to the source that the joiner keeps for its thread. The PSAM counts a
 // response's code in the announced length although it leaves it out.
+#![tactic(auto)]
+
 ghost use Rattle.std.specs.Prelude.{◌≡◌, ◌≤◌, length};
 ghost use Rattle.joiner.specs.Joining.{due_for, whole_of};
 

@@ -11,6 +11,8 @@
 // these rooms need not know it.
 //
 // Here are the definitions, their laws, and what concerns one event or one place.
+#![tactic(auto)]
+
 ghost use Rattle.std.specs.Prelude.{◌≡◌};
 ghost use Rattle.queue.specs.Events.{known_search, meets};
 ghost use Rattle.queue.specs.Places.{Packs, event_in, place_from};

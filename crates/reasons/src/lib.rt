@@ -5,6 +5,8 @@
 // say, there is no line.
 //
 // As in crate `telling`, nothing is promised of the words.
+#![tactic(auto)]
+
 use arrivals::{Arrival, What};
 use place::Place;
 use router::Router;

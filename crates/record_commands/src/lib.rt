@@ -10,6 +10,8 @@
 // A command looks first at all that can fail; then it writes or wipes one slot. Add and Update walk the
 // entries once for the record and once for the key, and Add once each for the free pointer and for the
 // free slot.
+#![tactic(auto)]
+
 ghost use Rattle.std.specs.Prelude.{◌%◌, ◌<◌, ◌≡◌, length};
 ghost use Rattle.book.specs.Book.{Lawful, entries_of};
 ghost use Rattle.lists.specs.ByPlace.{is_at};

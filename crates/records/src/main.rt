@@ -7,6 +7,8 @@
 // input. An input has at most 65,536 bytes. A change is on the disk before its line is printed.
 // Where IMAGE is no whole image, or cannot be written, that is said, and it stays as it was.
 // docs/book/the-kiosk-forgot.md says what to do then.
+#![tactic(auto)]
+
 ghost use Rattle.std.specs.Prelude.{◌≤◌, ◌≡◌, length};
 ghost use Rattle.image.specs.Image.{Storable, image_of};
 ghost use Rattle.records.specs.Records.{Held, Keeps, Room, Turned};

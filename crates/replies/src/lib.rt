@@ -10,6 +10,8 @@
 // Nothing has to be checked first. Data or a buffer that the writer refuses are answered by its
 // refusal, and the buffer is left as it was. A part that knows that its reply fits has its length:
 // proofs/Laws.antt, `fitting`.
+#![tactic(auto)]
+
 ghost use Rattle.std.specs.Prelude.{◌≡◌};
 ghost use Rattle.tapa.specs.Numbers.{two_bytes};
 ghost use Rattle.replies.specs.Checked.{opened};

@@ -8,6 +8,8 @@
 //
 // The law of a state (`Lawful`) holds of every router that a start or a call hands back. With the
 // view it leaves one state possible: proofs/Once.antt.
+#![tactic(auto)]
+
 ghost use Rattle.std.specs.Prelude.{◌≡◌};
 ghost use Rattle.lists.specs.Lists.{count as count_of};
 ghost use Rattle.places.specs.Places.{places_of, is_open, is_owed};

@@ -3,6 +3,8 @@
 //
 // A change works in place on the lent list and keeps its law (`Lawful`, room places). Where the number
 // of places may change, it answers the next one.
+#![tactic(auto)]
+
 ghost use Rattle.lists.specs.Lists.{keep, without_at, changed_at};
 ghost use Rattle.places.specs.Places.{places_of, Lawful, Becomes, pushed, owing, not_owed_by};
 

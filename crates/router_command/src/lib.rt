@@ -4,6 +4,8 @@
 // says whether it is turned back, with a response in the reply buffer, or passed and becomes a wait.
 // What is done is defined in `routing` (`OnMessage`), and so is the law of a router's state, which a
 // message keeps.
+#![tactic(auto)]
+
 ghost use Rattle.std.specs.Prelude.{◌≡◌, ◌≤◌, ◌<◌, length};
 ghost use Rattle.message.specs.Message.{code_of, part_of};
 ghost use Rattle.table.specs.Table.{Column};

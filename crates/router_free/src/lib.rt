@@ -4,6 +4,8 @@
 // Where a number stands, and what each outcome does to it, is defined in room numbers. To answer whether
 // a handler is free one row is looked up and one number is read: no wait and no owing is walked, and no
 // thread but the one that is asked about is looked at. Every function takes any address and any thread.
+#![tactic(auto)]
+
 ghost use Rattle.std.specs.Prelude.{◌≡◌, ◌*◌, ◌≤◌, ◌<◌};
 ghost use Rattle.lists.specs.Lists.{find};
 ghost use Rattle.tapa.specs.Address.{handler_of};

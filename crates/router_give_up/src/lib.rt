@@ -3,6 +3,8 @@
 // A give up makes the wait that asks an address an owing, and writes a response to its asker. A
 // replaced call ends a handler's owings and closes it. What is done is defined in `routing`
 // (`OnGiveUp`, `OnReplaced`).
+#![tactic(auto)]
+
 ghost use Rattle.table.specs.Table.{Column};
 ghost use Rattle.places.specs.Places as places;
 ghost use Rattle.routing.specs.Steps.{OnGiveUp, OnReplaced};

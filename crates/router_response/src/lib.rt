@@ -3,6 +3,8 @@
 // The wait of exactly its source and thread is answered and ends, and an answered Open Handler or
 // Close Handler marks its row. Where no wait wants the response, an owing of it swallows it and ends.
 // What is decided is defined in `rules` (`judge_response`), what is done in `routing`.
+#![tactic(auto)]
+
 ghost use Rattle.std.specs.Prelude.{◌≡◌};
 ghost use Rattle.table.specs.Table.{Column};
 ghost use Rattle.places.specs.Places as places;

@@ -3,6 +3,8 @@
 // A row is one number in a column of 16 (room table says which). A look-up takes the column of any
 // table of at most 16 rows. A mark keeps the law of the column, and with the rows the law leaves one
 // column possible (table, proofs/Once.antt).
+#![tactic(auto)]
+
 ghost use Rattle.std.specs.Prelude.{◌≡◌, ◌≤◌};
 ghost use Rattle.lists.specs.Lists.{find};
 ghost use Rattle.table.specs.Table.{address_at, is_at, listed, opened_at, Column, Opened, rows_of};

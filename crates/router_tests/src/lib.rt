@@ -2,6 +2,8 @@
 //
 // The tests are asked of the number, as the list of places keeps it. Each is one question that the
 // rules ask of a passed command (room place says what it means), and none changes anything.
+#![tactic(auto)]
+
 ghost use Rattle.std.specs.Prelude.{◌≡◌};
 ghost use Rattle.place.specs.Place.{unpack, Packed, open_on, asks_exactly, owes_exactly, stands, stands_on, holds_on, stands_in, on_slot, owed_by};
 

@@ -3,6 +3,8 @@
 //
 // A walk goes over the lent list once and changes nothing. Room places says what the answers mean,
 // room router_tests what is asked of one place.
+#![tactic(auto)]
+
 ghost use Rattle.std.specs.Prelude.{◌≡◌};
 ghost use Rattle.lists.specs.Lists.{find, some_of};
 ghost use Rattle.places.specs.Places.{places_of, place_at, Lawful, owes_exactly, stands_on, stands_in, on_slot, leaf_by, leaf_of, standing_of};

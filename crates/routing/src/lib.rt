@@ -9,6 +9,8 @@
 // The law of a router's state stands here too, said of the arrays that hold it (`Lawful`): a step keeps
 // it. A command that is passed becomes a place, and the law gives the room: at most 44 places are in use,
 // and the list has 48 (proofs/Law.antt).
+#![tactic(auto)]
+
 ghost use Rattle.std.specs.Prelude.{◌≡◌};
 ghost use Rattle.routing.specs.Steps.{refusing};
 

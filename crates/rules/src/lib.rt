@@ -11,6 +11,7 @@
 //
 // From the conduct comes the bound: at most 44 places over an accepted table, so there is room for each
 // command that is passed. An old list of rules tested for it; specs/Old.antt keeps it.
+#![tactic(auto)]
 
 use tapa::Refusal;
 

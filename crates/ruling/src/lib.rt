@@ -2,6 +2,8 @@
 //
 // Each function is held to a definition of `rules`: whether an event is taken, and which of the rules
 // a to e is the first that applies to a command.
+#![tactic(auto)]
+
 ghost use Rattle.std.specs.Prelude.{◌≡◌, ◌≤◌};
 ghost use Rattle.table.specs.Table.{rows_of};
 ghost use Rattle.places.specs.Places.{Lawful};

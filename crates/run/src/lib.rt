@@ -6,6 +6,8 @@
 //
 // Here are the types, the definitions and their laws. The code is in two rooms: `session_begun` reads the
 // rows and starts a router over them; `session_turns` hands out the items, one a turn.
+#![tactic(auto)]
+
 use router::Router;
 use rules::Outcome;
 use table::Rows;

@@ -1,4 +1,6 @@
 // The part to send: 'a part of the incoming buffer or of the reply buffer, never a copy'.
+#![tactic(auto)]
+
 ghost use Rattle.sending.specs.Sending.{Sending, FirstTen};
 
 use rules::Outcome;

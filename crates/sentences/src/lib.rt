@@ -3,6 +3,7 @@
 // Every line that is said below a line of the transcript is one of these forms, or a few of them one
 // after the other. `#`, `@`, `^` and `$` are holes (crate `forms`). Crates `telling` and `reasons` choose
 // among them.
+#![tactic(auto)]
 
 pub const ENCIPHERED: usize = names::FREE;
 

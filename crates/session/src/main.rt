@@ -4,6 +4,8 @@
 //
 // Without a file it reads standard input. A session file has at most 65,536 bytes. docs/book/ explains
 // every line, and examples/README.md says how to write such a file.
+#![tactic(auto)]
+
 fn main() {
     printer::show_inputs(b"session");
 }

@@ -3,6 +3,8 @@
 // The rows come first in the file. A broken one ends the run, and comes before the table is checked; a
 // table that is refused ends it too. Otherwise the steps are next, which crate `session_turns` takes one
 // by one. The state before the first item leaves all that the input has (crate `run`, `Begins`).
+#![tactic(auto)]
+
 ghost use Rattle.std.specs.Prelude.{◌≡◌, ◌≤◌, length};
 ghost use Rattle.table.specs.Table.{Held};
 ghost use Rattle.run.specs.Start.{heading_of, stage_of, started_by, Begins};

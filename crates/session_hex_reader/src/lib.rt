@@ -2,6 +2,8 @@
 //
 // The bytes are put into a lent buffer as far as there is room, and are all counted; a mistake ends the
 // reading, and its place is answered: hexes `Reads`. `locate` says the line and the column of a place.
+#![tactic(auto)]
+
 ghost use Rattle.std.specs.Prelude.{◌≡◌, take};
 ghost use Rattle.hexes.specs.Reading.{class_of, step_of, ended_of, Reads, spot_of};
 

@@ -2,6 +2,8 @@
 //
 // The bytes come part by part, and so does the text; the cursor knows where in a field a part ends:
 // hexes `Writes`. `write_end` ends the line of a field that the end of the input cuts.
+#![tactic(auto)]
+
 ghost use Rattle.std.specs.Prelude.{◌≡◌, ◌++◌};
 ghost use Rattle.text.specs.Text.{pen, puts, hex_of};
 ghost use Rattle.hexes.specs.Writing.{fresh_cursor, is_over, advanced, splits_at, name_of, gap_of, end_of, Writes};

@@ -4,6 +4,8 @@
 // A turn is `next_in`, over the router's arrays, which a loop owns and lends, so that no message copies
 // them; `next` is the same turn by value. What a turn hands out, and the state after it, are those of
 // crate `run` (`Turns`), where the law of a state stands too.
+#![tactic(auto)]
+
 ghost use Rattle.std.specs.Prelude.{◌≡◌, ◌≤◌, length};
 ghost use Rattle.places.specs.Places as places;
 ghost use Rattle.places.specs.Places.{places_of};

@@ -9,6 +9,8 @@
 //
 // What set-up hands back is made here alone, since a struct's fields are private to its crate: so every
 // one there is keeps its law (`Settled`).
+#![tactic(auto)]
+
 ghost use Rattle.std.specs.Prelude.{◌≡◌, ◌≤◌, ◌<◌, length, get_or, take};
 ghost use Rattle.lists.specs.Lists.{some_of, count as count_of};
 ghost use Rattle.table.specs.Table.{Narrow, rows_of, shaped, misshapen, repeats, is_multi, judge_table, judge_rows, no_row, rows_read};

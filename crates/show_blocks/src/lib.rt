@@ -3,6 +3,8 @@
 //
 // The words are chosen in crate `telling` and set in by crate `show_notes`. A block is begun while the
 // page has room for the longest. What the pages then hold is in crate `blocks` (`Told`, `first-lines`).
+#![tactic(auto)]
+
 ghost use Rattle.run.specs.State.{Ready};
 ghost use Rattle.blocks.specs.Blocks.{Noted, Put, Told};
 

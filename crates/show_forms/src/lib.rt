@@ -3,6 +3,8 @@
 //
 // No byte is written but by a form, so what is written is wordings of the sheet and digits, whatever the
 // values are (crate `forms`, proofs/Ink.antt). The contracts are the equations of crate `text`.
+#![tactic(auto)]
+
 ghost use Rattle.std.specs.Prelude.{◌≡◌, ◌+◌, get_or};
 ghost use Rattle.text.specs.Text.{pen, puts};
 ghost use Rattle.forms.specs.Forms.{is_hole, wording_of, part_text, form_text, forms_text};

@@ -1,6 +1,8 @@
 // Show notes: words are written with each of their lines set in by four spaces, and the last one closed.
 //
 // Whatever the words are, no line of them can be taken for a line of the transcript (crate `blocks`).
+#![tactic(auto)]
+
 ghost use Rattle.std.specs.Prelude.{◌≡◌, length, take};
 ghost use Rattle.text.specs.Text.{pen, puts};
 ghost use Rattle.blocks.specs.Words.{indented};

@@ -2,6 +2,8 @@
 //
 // A program engraves its sheet once and then only reads it. What a sheet is, and where a wording stands
 // in it, is in crate `forms`.
+#![tactic(auto)]
+
 ghost use Rattle.std.specs.Prelude.{◌≡◌, ◌+◌, ◌≤◌, length};
 ghost use Rattle.text.specs.Text.{pen};
 ghost use Rattle.forms.specs.Forms.{Spans, end_of, stylus, nibbed, engraved};

@@ -6,6 +6,8 @@
 //
 // Get walks the entries once: the look for the next record goes on from the place where the record
 // was found, and that for the previous one goes back from there.
+#![tactic(auto)]
+
 ghost use Rattle.std.specs.Prelude.{◌<◌, ◌≡◌};
 ghost use Rattle.book.specs.Book.{Lawful, Shaped, entries_of, pointer_at};
 ghost use Rattle.files.specs.Files.{nextward};

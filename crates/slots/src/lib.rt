@@ -7,6 +7,8 @@
 //
 // Each function is total: where there is no such slot, or no room in it, nothing is written and
 // nothing is read.
+#![tactic(auto)]
+
 ghost use Rattle.std.specs.Prelude.{◌+◌, ◌-◌, ◌≤◌, ◌++◌, ◌≡◌, length, replicate};
 ghost use Rattle.lists.specs.Lists.{count};
 ghost use Rattle.slots.specs.Slots.{SlotPart, holds_key, is_slot, wiped, written};

@@ -3,6 +3,8 @@
 // A program that lends its rows sets the table up with `setup::set_up` or `setup::set_up_own`, and
 // starts here from what that hands back. What a start requires of rows and of a set-up holds of all there
 // are: nobody makes one by hand (rooms table and setup).
+#![tactic(auto)]
+
 ghost use Rattle.std.specs.Prelude.{◌≡◌};
 ghost use Rattle.table.specs.Table.{Held};
 ghost use Rattle.setup.specs.Setup.{Settled};

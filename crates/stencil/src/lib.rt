@@ -5,6 +5,7 @@
 // values, so what is drawn is these wordings, TAPA's names, and digits.
 //
 // `#`, `@`, `^` and `$` are holes. A rule of the style sheet that needs `@` itself goes in through `$`.
+#![tactic(auto)]
 
 // ---- the file and its pages
 

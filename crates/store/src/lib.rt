@@ -6,6 +6,8 @@
 //
 // The code is in the rooms `store_asked` (what a message asks) and `store_answers` (all that it comes
 // to).
+#![tactic(auto)]
+
 use book::Book;
 use replies::Answer;
 

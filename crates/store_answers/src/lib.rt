@@ -5,6 +5,8 @@
 // after a call is part of the contract, also of a refusal. A response's data are written into a
 // buffer of their own, since the reply is not touched before the command is done. The definitions
 // and laws are room `store`'s.
+#![tactic(auto)]
+
 ghost use Rattle.std.specs.Prelude.{◌*◌, ◌+◌, ◌≤◌, ◌≡◌, length, take};
 ghost use Rattle.std.proofs.Math.Option.{some};
 ghost use Rattle.book.specs.Book.{Lawful, entries_of, rec_of};

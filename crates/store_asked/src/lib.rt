@@ -3,6 +3,8 @@
 //
 // No book is looked at here: a message alone decides. The shapes are room `files`'s, the checks room
 // `store`'s.
+#![tactic(auto)]
+
 ghost use Rattle.std.specs.Prelude.{◌≡◌};
 ghost use Rattle.files.specs.Asked.{ids_shape, key_shape, record_shape};
 ghost use Rattle.store.specs.Store.{checked, elsewhere};

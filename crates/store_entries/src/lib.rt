@@ -4,6 +4,8 @@
 // entry of zeros, and a change there is none. A search is one walk over the entries: for a record, by its
 // pointer or its key, or for the lowest pointer or slot that is free. The definitions and laws are room
 // `book`'s.
+#![tactic(auto)]
+
 ghost use Rattle.std.specs.Prelude.{[], ◌≡◌, get_or, length, set, drop, take, ◌≤◌, cond, ltb};
 ghost use Rattle.book.specs.Book.{Shaped, book_of, entries_of, no_entry, no_kinds, pushed_of, Lawful, in_file, key_at, meant, pointers_of, slots_of};
 ghost use Rattle.lists.specs.ByPlace.{cut, last, place};

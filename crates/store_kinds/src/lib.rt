@@ -2,6 +2,8 @@
 //
 // A book goes in by value and comes back by value. An identifier that is none has the row of a file
 // that is not made, and a change of it is none. The definitions and laws are room `book`'s.
+#![tactic(auto)]
+
 ghost use Rattle.std.specs.Prelude.{◌≤◌, ◌≡◌};
 ghost use Rattle.book.specs.Book.{Shaped, free_kind, is_made, kind_of, no_kind, one_more, with_kind, with_kinds};
 ghost use Rattle.lists.specs.Lists.{count};

@@ -3,6 +3,8 @@
 // Lines are gathered into pages, as in room pages: a program keeps what a page tells on the disk, and
 // then prints the page. So a page ends before a command that may change the store, where only such
 // as read stand on it: these need not wait for the disk.
+#![tactic(auto)]
+
 ghost use Rattle.std.specs.Prelude.{◌≡◌};
 ghost use Rattle.fields.specs.Places.{step_at};
 ghost use Rattle.image.specs.Image.{Storable};

@@ -9,6 +9,8 @@
 // to its crate: so every one there is keeps its law (`Held`).
 //
 // A row of an accepted table names its handler: its sub-address has no top bit.
+#![tactic(auto)]
+
 ghost use Rattle.std.specs.Prelude.{◌≡◌};
 ghost use Rattle.table.specs.Table.{pack, no_rows, with_row};
 

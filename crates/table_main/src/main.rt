@@ -1,6 +1,8 @@
 // Tables that meet every outcome of set-up once, and look-ups in an accepted one.
 //
 // Each table is lent as a slice of rows. A line has the refusal's number, or 00.
+#![tactic(auto)]
+
 ghost use Rattle.std.specs.Prelude.{◌≤◌};
 ghost use Rattle.table.specs.Table.{Column};
 

@@ -6,6 +6,8 @@
 //
 // A refusal has a name here and a number on the page; `number` goes from the one to the other. Numbers in
 // bytes have the high byte first, and bytes past an end are 0: `pair`, `byte_at`, `word_at`.
+#![tactic(auto)]
+
 ghost use Rattle.std.specs.Prelude.{◌≡◌, ◌+◌, ◌*◌, get_or};
 ghost use Rattle.tapa.specs.Address.{category_of, handler_of, multi};
 ghost use Rattle.tapa.specs.Refusals.{number_of};

@@ -6,6 +6,8 @@
 //
 // Nothing is promised of the words; they are tried on the examples. Crate `blocks` sets them in, so
 // that they cannot be taken for lines of the transcript.
+#![tactic(auto)]
+
 use arrivals::{Arrival, What};
 use fields::NextRow;
 use place::Place;

@@ -5,6 +5,8 @@
 // function asks anything of its caller. The contracts fix every byte of the buffer.
 //
 // Calls follow one another as their texts do: proofs/Laws.antt, `more`.
+#![tactic(auto)]
+
 ghost use Rattle.std.specs.Prelude.{◌≡◌, [], ◌∷◌, ◌+◌, ◌<◌, ◌%◌};
 ghost use Rattle.text.specs.Text.{pen, puts, digit_of, hex_of, hexes_of, word_hex_of, decimal_of};
 

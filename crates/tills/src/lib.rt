@@ -13,3 +13,4 @@
 //
 // There is no code here. What is used of the rules stands with them: how far a call sees, and how far
 // its outcome reaches (rules, proofs/Apart.antt).
+#![tactic(auto)]

@@ -4,6 +4,8 @@
 // item of its run, in order. Every line ends in LF and has no other (proofs/Ends.antt), none has more
 // than 64 bytes (proofs/Short.antt), and the last line of a session without a broken field has the
 // totals of its history (proofs/Sums.antt).
+#![tactic(auto)]
+
 ghost use Rattle.std.specs.Prelude.{◌≡◌};
 ghost use Rattle.text.specs.Text.{pen, puts};
 ghost use Rattle.transcript.specs.Prescribed.{line_with};

@@ -13,6 +13,8 @@
 //
 // What fails is answered and not said; errno still has the system's reason. No contract can say
 // what is read or written, so those here speak of lengths only.
+#![tactic(auto)]
+
 ghost use Rattle.std.specs.Prelude.{◌<◌, ◌≤◌};
 ghost use Rattle.io.specs.Counts.{IsPrefixLen};
 ghost use Rattle.libc.specs.Io.{Ended};

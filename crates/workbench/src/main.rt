@@ -4,6 +4,7 @@
 //
 // Without a file it reads standard input. An input has at most 65,536 bytes. docs/WORKBENCH.md has
 // the table of fields, and examples/workbench.hex an example.
+#![tactic(auto)]
 
 // Prints the lines of one input, one at a time; false where they cannot be written.
 fn show(program: &[u8], input: &[u8]) -> bool {

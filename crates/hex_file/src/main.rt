@@ -10,6 +10,8 @@
 // again, whatever they are.
 //
 // A session file has at most 65,536 bytes, a text at most 524,288 characters.
+#![tactic(auto)]
+
 ghost use Rattle.std.specs.Prelude.{◌≤◌, ◌<◌, ◌≡◌, length};
 
 use hexes::Ends;
