@@ -63,6 +63,7 @@ const BY_TYPE: u8 = 2;
 pub const BY_BOTH: u8 = 3;
 
 // Whether a search type has a bit that is known, and none that is reserved.
+#[tactic(auto, unfolding(crate::specs::Events::known_search))]
 pub fn is_known_search(by: u8) -> bool
     ensures { result ≡ known_search by }
 {
@@ -73,6 +74,7 @@ pub fn is_known_search(by: u8) -> bool
 }
 
 // Whether an event meets a search. What the search type does not use is not looked at.
+#[tactic(auto, unfolding(crate::specs::Events::meets))]
 pub fn is_met(search: Search, event: Event) -> bool
     ensures { result ≡ meets search event }
 {
