@@ -1,6 +1,6 @@
 -- The digits and some numbers, written out.
 use mathlib.Core.Path.{◌≡◌, refl}
-use mathlib.Core.List.{List, [], ◌∷◌, map}
+use mathlib.Core.List.{[], ◌∷◌, map}
 use Rattle.text.specs.Text.{ascii, digit_of, hexes_of, word_hex_of, decimal_of}
 
 -- 'upper-case hex'
