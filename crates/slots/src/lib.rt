@@ -54,7 +54,7 @@ pub fn part(area: &[u8], slot: u16, at: usize, count: usize) -> &[u8]
 pub fn has_key(area: &[u8], slot: u16, long: u16, key: &[u8]) -> bool
     ensures { result ≡ holds_key area.now slot long key.now }
 {
-    check::same(part(area, slot, 0, wide(long)), key)
+    octets::same(part(area, slot, 0, wide(long)), key)
 }
 
 fn zero(bytes: &mut [u8])
@@ -72,8 +72,8 @@ fn fill(slot: &mut [u8], key: &[u8], bytes: &[u8])
     ensures { slot.new ≡ key.now ++ (bytes.now ++ replicate (length slot.old - length key.now - length bytes.now) 0) }
 {
     zero(slot);
-    let n = bytes::copy(key, slot);
-    let _m = bytes::copy(bytes, &mut slot[n..]);
+    let n = octets::copy(key, slot);
+    let _m = octets::copy(bytes, &mut slot[n..]);
 }
 
 // A slot with a record's key and data, and zeros behind them.
