@@ -1,0 +1,14 @@
+-- At each turn the places below `i`, and the waits passed, give what all give.
+use Rattle.std.proofs.Common.{◌≡◌, ◌||◌}
+use Rattle.lists.specs.Lists.{some_of}
+use Rattle.lists.proofs.Arrays.{Below}
+use Rattle.places.specs.Places.{unpack, places_of, open_on, stands_on}
+use Rattle.router_walks.proofs.standing_of.Given as goal
+
+abbrev pub invariant-loop-i : goal.invariant-loop-i
+invariant-loop-i l =
+    Below unpack (some_of (stands_on l.thread l.handler)) l.list l.n l.i
+    × ((l.waits || some_of (open_on l.thread) (places_of l.list l.i)) ≡ some_of (open_on l.thread) (places_of l.list l.n))
+
+abbrev pub decreases-loop-i : goal.decreases-loop-i
+decreases-loop-i l = l.i
