@@ -18,14 +18,14 @@ ghost use Rattle.queue.specs.Events.{known_search, meets};
 ghost use Rattle.queue.specs.Places.{Packs, event_in, place_from};
 
 // A type byte and the address where it happened.
-#[derive(Drop)]
+#[derive(Clone, Copy)]
 pub struct Event {
     pub kind: u8,
     pub location: u16,
 }
 
 // At most 100 events, oldest first from the ring's start on; each is packed into a number.
-#[derive(Drop)]
+#[derive(Clone, Copy)]
 pub struct Queue {
     pub places: [u32; 100],
     pub start: usize,
@@ -33,21 +33,21 @@ pub struct Queue {
 }
 
 // Which places of the ring hold events: from its start on, so many.
-#[derive(Drop)]
+#[derive(Clone, Copy)]
 pub struct Stretch {
     pub start: usize,
     pub count: usize,
 }
 
 // What a search is by (Search Type Coding), and what it is for.
-#[derive(Drop)]
+#[derive(Clone, Copy)]
 pub struct Search {
     pub by: u8,
     pub wanted: Event,
 }
 
 // The event that was asked for, where there is one.
-#[derive(Drop)]
+#[derive(Clone, Copy)]
 pub enum Sought {
     One(Event),
     Nothing,
