@@ -1,0 +1,22 @@
+-- `message_reader::data_part` meets its contract: a message has eight bytes before its data. Assumes nothing.
+use Rattle.std.proofs.Common.{sym, ◌∙◌}
+use Rattle.message.proofs.Laws.{long, all_left, part-of-message, part-of-none}
+use Rattle.message_reader.proofs.data_part.Goals as goal
+
+pub slice_bounds-result-count : goal.slice_bounds-result-count
+slice_bounds-result-count c = long c.args.message.now (sym c.in-Message.ensures)
+
+pub slice_bounds-result-start : goal.slice_bounds-result-start
+slice_bounds-result-start c = long c.args.message.now (sym c.in-Message.ensures)
+
+pub returns-in-Message : goal.returns-in-Message
+returns-in-Message c =
+    let s = c.args.message.now in
+    let e = sym c.in-Message.ensures in
+    record { bytes = all_left s ∙ sym (part-of-message s _ e); place = rw e }
+
+pub returns-in-Refused : goal.returns-in-Refused
+returns-in-Refused c =
+    let s = c.args.message.now in
+    let e = sym c.in-Refused.ensures in
+    record { bytes = sym (part-of-none s _ e); place = rw e }
