@@ -15,10 +15,8 @@ use Rattle.book.specs.declared.Kind.{Kind}
 use Rattle.lists.proofs.ByPlace.{few-cut}
 use Rattle.lists.proofs.Tests.{split}
 use Rattle.lists.specs.ByPlace.{cut}
-use Rattle.lists.specs.Lists.{count}
 use Rattle.lists.specs.declared.Found.{Found}
 use Rattle.lists.specs.declared.Found.TheVariants.{At, Nothing}
-use types.Part.{whole}
 
 -- what is put together of 16 rows and at most 256 entries
 pub shaped_of : (ks : List Kind) (l : List Entry) → length l ≤ 256 → length ks ≡ 16 → Shaped (book_of ks l)

@@ -13,7 +13,7 @@
 ghost use Rattle.std.specs.Prelude.{◌≡◌};
 
 // A file's row in the table: whether it is made, and the longest key and data that it takes.
-#[derive(Drop)]
+#[derive(Clone, Copy)]
 pub struct Kind {
     pub made: bool,
     pub keymax: u16,
@@ -21,7 +21,7 @@ pub struct Kind {
 }
 
 // A record's entry: its file, its pointer there, its slot, and the lengths of its key and data.
-#[derive(Drop)]
+#[derive(Clone, Copy)]
 pub struct Entry {
     pub file: u16,
     pub pointer: u16,
@@ -31,7 +31,7 @@ pub struct Entry {
 }
 
 // The row of file f stands at place f - 1.
-#[derive(Drop)]
+#[derive(Clone, Copy)]
 pub struct Book {
     pub kinds: [Kind; 16],
     pub entries: [Entry; 256],
@@ -39,7 +39,7 @@ pub struct Book {
 }
 
 // A new file's identifier, 0 where there is none, and the book with it.
-#[derive(Drop)]
+#[derive(Clone, Copy)]
 pub struct Created {
     pub id: u16,
     pub next: Book,
