@@ -63,7 +63,9 @@ distinct r t h (p ∷ l) g =
     (λ b. rw b (split (eqb (handler_of p.asked) h)
     (λ q.
     let n : some_of (λ x. eqb x h) (r ∷ asked_by (tree_of t l)) ≡ false =
-    rw (← (eqb-true (handler_of p.asked) h q), ← (grown-listed r t (handler_of p.asked) l)) (g.0 b).1 in
+    ap (λ (k : ℕ). some_of (λ x. eqb x k) (r ∷ asked_by (tree_of t l))) (sym (eqb-true (handler_of p.asked) h q))
+    ∙ sym (grown-listed r t (handler_of p.asked) l)
+    ∙ (g.0 b).1 in
     rw q (omega (arith, none-zero (λ x. eqb x h) (r ∷ asked_by (tree_of t l)) n)))
     (λ q. rw q (omega (arith, distinct r t h l g.1)))))
     (λ b. rw b (distinct r t h l g.1))
