@@ -5,90 +5,209 @@
 // the system's reason, and goes on with the next. A write that fails is said likewise, and ends
 // the program.
 //
-// A Rattle program has no exit status. Where its first argument is `--status`, whoever started it
-// has opened descriptor 3 for it to tell of failures, a digit each. Without that argument it
-// writes nothing there.
+// These programs end with status 0 whatever came. Where the first argument is `--status`, whoever
+// started the program has opened descriptor 3 for it to tell of failures, a digit each. Without that
+// argument it writes nothing there.
 //
-// No contract can say what is read or written, so those here speak of lengths only, and of the number of
-// the next argument, which grows.
+// The system's reason for a failure is its number, in the field `code` of an answer. No contract can
+// say what is read or written, so those here speak of lengths only, and of the number of the next
+// argument, which grows.
 #![tactic(auto)]
 
-ghost use Rattle.std.specs.Prelude.{◌≤◌, ◌<◌};
+ghost use Rattle.std.specs.Prelude.{◌≡◌, ◌≤◌, ◌<◌};
 ghost use Rattle.io.specs.Counts.{IsPrefixLen};
 
-use libc::{STDERR_FILENO, STDIN_FILENO, STDOUT_FILENO};
+use std::env::{Env, FillError};
+use std::fmt::Write;
+use std::fs::File;
+use std::io::{Error, ErrorKind, IsTerminal, Print, Read};
+use std::{fmt, str};
 
 // Where failures are told.
 const STATUS_FILENO: i32 = 3;
 
-// How many bytes of the buffer are the input's, and whether it was read to its end. A full buffer
-// counts as an end: who must see a longer input lends one byte more.
+// The system's number for an error that has none of its own: input or output failed.
+const EIO: i32 = 5;
+
+// For memory that ran out, an argument that cannot be, a name that is too long, and one that is no text.
+const ENOMEM: i32 = 12;
+
+const EINVAL: i32 = 22;
+
+const ENAMETOOLONG: i32 = 36;
+
+const EILSEQ: i32 = 84;
+
+// How many bytes of the buffer are the input's, and whether it was read to its end; where it was not, the
+// system's number says why. A full buffer counts as an end: who must see a longer input lends one byte more.
 #[derive(Drop)]
 pub struct Got {
     pub length: usize,
     pub whole: bool,
+    pub code: i32,
+}
+
+// ---- the system's reasons
+
+// The system's number of an error.
+pub fn code_of(e: &Error) -> i32 {
+    match e.raw_os_error() {
+        Some(code) => code,
+        None => code_of_kind(e.kind()),
+    }
+}
+
+fn code_of_kind(kind: ErrorKind) -> i32 {
+    match kind {
+        ErrorKind::OutOfMemory => ENOMEM,
+        ErrorKind::InvalidInput => EINVAL,
+        _ => EIO,
+    }
+}
+
+// The system's words for an error, as far as there is room.
+#[derive(Drop)]
+struct Words {
+    bytes: [u8; 320],
+    used: usize,
+}
+
+impl fmt::Write for Words {
+    fn write_str(&mut self, s: &str) -> fmt::Result {
+        let used = self.used;
+        if used < 320 {
+            self.used = used + octets::copy(s.as_bytes(), &mut self.bytes[used..]);
+        }
+        Ok(())
+    }
+}
+
+// How long a text is without its last part in parentheses: `std` puts the number there, as in
+// `No such file or directory (os error 2)`.
+fn bare_length(text: &[u8]) -> usize
+    ensures { IsPrefixLen result text.now }
+{
+    let mut i = text.len();
+    while 0 < i {
+        i -= 1;
+        if text[i] == b'(' {
+            return if 0 < i { i - 1 } else { 0 };
+        }
+    }
+    text.len()
+}
+
+// Says on standard error what failed, a colon, and the system's reason.
+pub fn say_why(rt: HostRuntime, what: &[u8], code: i32) {
+    let mut words = Words {
+        bytes: [0; 320],
+        used: 0,
+    };
+    let e = Error::from_raw_os_error(code);
+    let _ = write!(words, "{e}");
+    put(rt, what);
+    put(rt, b": ");
+    let text = &words.bytes[..words.used.min(320)];
+    put(rt, &text[..bare_length(text)]);
+    put(rt, b"\n");
+}
+
+// ---- what is said and told
+
+// Puts bytes on standard error. Where that fails there is nobody to tell.
+fn put(rt: HostRuntime, bytes: &[u8]) {
+    let _ = rt.stderr().write_all(bytes);
 }
 
 // Whether the first argument is `--status`.
-fn is_asked() -> bool {
+fn is_asked(rt: HostRuntime) -> bool {
     let mut word = io::buffer();
-    let n = os::arg(1, &mut word);
-    check::same(&word[..n], b"--status")
+    match rt.arg(1, &mut word) {
+        Ok(n) => octets::same(&word[..n], b"--status"),
+        Err(_) => false,
+    }
 }
 
 // The number of the first argument that names an input.
-pub fn first_name() -> usize
+pub fn first_name(rt: HostRuntime) -> usize
     ensures { result ≤ 2 }
 {
-    if is_asked() { 2 } else { 1 }
+    if is_asked(rt) { 2 } else { 1 }
+}
+
+// How many arguments the program was started with, its own name among them.
+pub fn count(rt: HostRuntime) -> usize {
+    let mut word = [0u8; 1];
+    for i in 0..usize::MAX {
+        if let Err(FillError::NotPresent) = rt.arg(i, &mut word) {
+            return i;
+        }
+    }
+    usize::MAX
 }
 
 // Tells of a failure: `1`, something could not be read or written; `2`, wrong usage.
-pub fn tell(status: &[u8]) {
-    if is_asked() {
+pub fn tell(rt: HostRuntime, status: &[u8]) {
+    if is_asked(rt) {
         io::write_all(STATUS_FILENO, status);
     }
 }
 
 // Says one line on standard error, that begins with the program's name.
-pub fn say(program: &[u8], line: &[u8]) {
-    io::write_all(STDERR_FILENO, program);
-    io::write_all(STDERR_FILENO, b": ");
-    io::write_all(STDERR_FILENO, line);
-    io::write_all(STDERR_FILENO, b"\n");
+pub fn say(rt: HostRuntime, program: &[u8], line: &[u8]) {
+    put(rt, program);
+    put(rt, b": ");
+    put(rt, line);
+    put(rt, b"\n");
 }
 
-// Says what failed, with the system's reason, and tells of it. The reason is still there: writes
-// that succeed leave it alone.
-pub fn fail(program: &[u8], what: &[u8]) {
-    io::write_all(STDERR_FILENO, program);
-    io::write_all(STDERR_FILENO, b": ");
-    os::fail(what);
-    tell(b"1");
+// Says what failed, with the system's reason, and tells of it.
+pub fn fail(rt: HostRuntime, program: &[u8], what: &[u8], code: i32) {
+    put(rt, program);
+    put(rt, b": ");
+    say_why(rt, what, code);
+    tell(rt, b"1");
+}
+
+// ---- reading
+
+// Nothing was read, for this reason.
+fn nothing(code: i32) -> Got
+    ensures { result.length ≡ 0 }
+{
+    Got {
+        length: 0,
+        whole: false,
+        code,
+    }
 }
 
 // Reads once. No bytes are the end, or a failure.
-fn read_some(fd: i32, buf: &mut [u8]) -> Got
+fn read_some<R: Read>(from: &mut R, buf: &mut [u8]) -> Got
     ensures { IsPrefixLen result.length buf.new }
 {
-    let got = libc::read(fd, buf);
-    Got {
-        length: io::count(got, buf),
-        whole: 0 <= got,
+    match from.read(buf) {
+        Ok(length) => Got {
+            length,
+            whole: true,
+            code: 0,
+        },
+        Err(e) => nothing(code_of(&e)),
     }
 }
 
 // Reads until the end is seen, a read fails, or the buffer is full.
-fn read_whole(fd: i32, buf: &mut [u8]) -> Got
+fn read_whole<R: Read>(from: &mut R, buf: &mut [u8]) -> Got
     ensures { IsPrefixLen result.length buf.new }
 {
     let mut length = 0;
     while length < buf.len() {
-        let more = read_some(fd, &mut buf[length..]);
+        let more = read_some(from, &mut buf[length..]);
         if more.length == 0 {
             return Got {
                 length,
                 whole: more.whole,
+                code: more.code,
             };
         }
         length += more.length;
@@ -96,94 +215,112 @@ fn read_whole(fd: i32, buf: &mut [u8]) -> Got
     Got {
         length,
         whole: true,
+        code: 0,
+    }
+}
+
+// A file's name as `std` takes it, which is text; else the number that says so.
+pub fn path_of(name: &[u8]) -> Result<&str, i32> {
+    match str::from_utf8(name) {
+        Ok(path) => Ok(path),
+        Err(_) => Err(EILSEQ),
     }
 }
 
 // Reads the file of that name. Where it cannot be opened, nothing of it was read.
-pub fn read_file(name: &[u8], buf: &mut [u8]) -> Got
+pub fn read_file(rt: HostRuntime, name: &[u8], buf: &mut [u8]) -> Got
     ensures { IsPrefixLen result.length buf.new }
 {
-    let fd = os::open_read(name);
-    if fd < 0 {
-        return Got {
-            length: 0,
-            whole: false,
-        };
+    match path_of(name) {
+        Ok(path) => read_path(rt, path, buf),
+        Err(code) => nothing(code),
     }
-    let got = read_whole(fd, buf);
-    libc::close(fd);
-    got
+}
+
+fn read_path(rt: HostRuntime, path: &str, buf: &mut [u8]) -> Got
+    ensures { IsPrefixLen result.length buf.new }
+{
+    match File::open(&rt, path) {
+        Ok(mut file) => read_whole(&mut file, buf),
+        Err(e) => nothing(code_of(&e)),
+    }
 }
 
 // Tells who sits at a terminal what is waited for.
-fn wait_for(program: &[u8], what: &[u8]) {
-    if libc::isatty(STDIN_FILENO) != 1 {
+fn wait_for(rt: HostRuntime, program: &[u8], what: &[u8]) {
+    if !rt.stdin().is_terminal() {
         return;
     }
-    io::write_all(STDERR_FILENO, program);
-    io::write_all(STDERR_FILENO, b": waiting for ");
-    io::write_all(STDERR_FILENO, what);
-    io::write_all(STDERR_FILENO, b" on standard input (Ctrl-D ends it)\n");
+    put(rt, program);
+    put(rt, b": waiting for ");
+    put(rt, what);
+    put(rt, b" on standard input (Ctrl-D ends it)\n");
 }
 
 // Reads standard input.
-fn read_standard(program: &[u8], what: &[u8], buf: &mut [u8]) -> Got
+fn read_standard(rt: HostRuntime, program: &[u8], what: &[u8], buf: &mut [u8]) -> Got
     ensures { IsPrefixLen result.length buf.new }
 {
-    wait_for(program, what);
-    let got = read_whole(STDIN_FILENO, buf);
+    wait_for(rt, program, what);
+    let mut from = rt.stdin();
+    let got = read_whole(&mut from, buf);
     if !got.whole {
-        fail(program, b"standard input");
+        fail(rt, program, b"standard input", got.code);
     }
     got
 }
 
 // Reads the input of that name: a file, or standard input where the name is `-`.
-fn read_input(program: &[u8], what: &[u8], name: &[u8], buf: &mut [u8]) -> Got
+fn read_input(rt: HostRuntime, program: &[u8], what: &[u8], name: &[u8], buf: &mut [u8]) -> Got
     ensures { IsPrefixLen result.length buf.new }
 {
-    if check::same(name, b"-") {
-        return read_standard(program, what, buf);
+    if octets::same(name, b"-") {
+        return read_standard(rt, program, what, buf);
     }
-    let got = read_file(name, buf);
+    let got = read_file(rt, name, buf);
     if !got.whole {
-        fail(program, name);
+        fail(rt, program, name, got.code);
     }
     got
 }
 
 // Where there are several inputs and standard error is a terminal, an input's name goes before
 // what is printed of it.
-fn title(name: &[u8]) {
-    if os::arg_count() <= first_name() + 1 {
+fn title(rt: HostRuntime, name: &[u8]) {
+    if count(rt) <= first_name(rt) + 1 {
         return;
     }
-    if libc::isatty(STDERR_FILENO) == 1 {
-        io::write_all(STDERR_FILENO, name);
-        io::write_all(STDERR_FILENO, b":\n");
+    if rt.stderr().is_terminal() {
+        put(rt, name);
+        put(rt, b":\n");
     }
 }
 
 // Reads the input that argument i names, or standard input where there is no such argument. Where
 // that fails, it is said.
-pub fn read(program: &[u8], what: &[u8], i: usize, buf: &mut [u8]) -> Got
+pub fn read(rt: HostRuntime, program: &[u8], what: &[u8], i: usize, buf: &mut [u8]) -> Got
     ensures { IsPrefixLen result.length buf.new }
 {
-    if os::arg_count() <= i {
-        return read_standard(program, what, buf);
+    if count(rt) <= i {
+        return read_standard(rt, program, what, buf);
     }
     let mut name = io::buffer();
-    let n = os::arg(i, &mut name);
-    if os::errno() != 0 {
-        fail(program, b"a file's name");
-        return Got {
-            length: 0,
-            whole: false,
-        };
+    match rt.arg(i, &mut name) {
+        Ok(n) => read_named(rt, program, what, &name[..n], buf),
+        Err(_) => {
+            fail(rt, program, b"a file's name", ENAMETOOLONG);
+            nothing(ENAMETOOLONG)
+        }
     }
-    let got = read_input(program, what, &name[..n], buf);
+}
+
+// Reads the input of that name, and puts the name before what is printed of it.
+fn read_named(rt: HostRuntime, program: &[u8], what: &[u8], name: &[u8], buf: &mut [u8]) -> Got
+    ensures { IsPrefixLen result.length buf.new }
+{
+    let got = read_input(rt, program, what, name, buf);
     if got.whole {
-        title(&name[..n]);
+        title(rt, name);
     }
     got
 }
@@ -205,13 +342,20 @@ fn after(i: usize, count: usize) -> usize
 }
 
 // Reads on until an input was read whole. Of one that cannot be read nothing is done; it is said why.
-pub fn next(program: &[u8], what: &[u8], from: usize, count: usize, buf: &mut [u8]) -> Came
+pub fn next(
+    rt: HostRuntime,
+    program: &[u8],
+    what: &[u8],
+    from: usize,
+    count: usize,
+    buf: &mut [u8],
+) -> Came
     ensures prefix_len { IsPrefixLen result.length buf.new }
     ensures from_lt_next { result.next < count → from < result.next }
 {
     let mut i = from;
     loop {
-        let got = read(program, what, i, buf);
+        let got = read(rt, program, what, i, buf);
         let next = after(i, count);
         if got.whole {
             return Came {
@@ -231,16 +375,24 @@ pub fn next(program: &[u8], what: &[u8], from: usize, count: usize, buf: &mut [u
     }
 }
 
+// ---- writing
+
 // Writes all to standard output, or says why not. Where nobody reads any more there is nobody to
 // tell.
-pub fn write(program: &[u8], bytes: &[u8]) -> bool {
-    if io::write_all(STDOUT_FILENO, bytes) {
-        return true;
+pub fn write(rt: HostRuntime, program: &[u8], bytes: &[u8]) -> bool {
+    match rt.stdout().write_all(bytes) {
+        Ok(()) => true,
+        Err(e) => {
+            refuse(rt, program, &e);
+            false
+        }
     }
-    if os::errno() == libc::EPIPE {
-        tell(b"1");
-        return false;
+}
+
+fn refuse(rt: HostRuntime, program: &[u8], e: &Error) {
+    if e.kind() == ErrorKind::BrokenPipe {
+        tell(rt, b"1");
+    } else {
+        fail(rt, program, b"standard output", code_of(e));
     }
-    fail(program, b"standard output");
-    false
 }
