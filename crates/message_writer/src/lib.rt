@@ -44,7 +44,7 @@ pub fn write(
         return Writing::Refused(Refusal::BufferTooSmall);
     }
     put_head(buffer, destination, source, kind, thread, length);
-    bytes::copy(part, &mut buffer[8..]);
+    octets::copy(part, &mut buffer[8..]);
     Writing::Written(8 + length)
 }
 
