@@ -168,7 +168,7 @@ fn clash(keyed: bool, x: Entry, key: &[u8], y: Entry, other: &[u8]) -> bool
     if !keyed {
         return false;
     }
-    check::same(key, other)
+    octets::same(key, other)
 }
 
 // Whether a later entry clashes with entry i.
@@ -240,7 +240,7 @@ fn agree(img: &[u8], name: &[u8]) -> bool
     } else {
         name.len()
     };
-    check::same(&img[0..n], &name[0..n])
+    octets::same(&img[0..n], &name[0..n])
 }
 
 // Whether the last four bytes are the checksum of those before.
@@ -258,7 +258,7 @@ fn sum_fits(img: &[u8]) -> bool
         (low / 256) as u8,
         (low % 256) as u8,
     ];
-    check::same(&img[n..], &sum)
+    octets::same(&img[n..], &sum)
 }
 
 // Says what some bytes are. The checks in their order: the first that fails decides.
@@ -271,7 +271,7 @@ pub fn judge(img: &[u8]) -> Verdict
     if img.len() < 14 {
         return Verdict::Cut;
     }
-    if !check::same(&img[12..14], b"1\n") {
+    if !octets::same(&img[12..14], b"1\n") {
         return Verdict::Version;
     }
     if img.len() < 68 {
