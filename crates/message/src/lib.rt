@@ -9,7 +9,7 @@
 use tapa::Refusal;
 
 // What stands before the data.
-#[derive(Drop)]
+#[derive(Clone, Copy)]
 pub struct Head {
     pub destination: u16,
     pub source: u16,
@@ -18,20 +18,20 @@ pub struct Head {
     pub length: usize,
 }
 
-#[derive(Drop)]
+#[derive(Clone, Copy)]
 pub enum Reading {
     Message(Head),
     Refused(Refusal),
 }
 
 // A response's code, or none where its data has under two bytes.
-#[derive(Drop)]
+#[derive(Clone, Copy)]
 pub enum Coded {
     Code(u16),
     Missing,
 }
 
-#[derive(Drop)]
+#[derive(Clone, Copy)]
 pub enum Writing {
     Written(usize),
     Refused(Refusal),

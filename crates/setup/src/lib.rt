@@ -21,7 +21,7 @@ use tapa::Refusal;
 
 // What set-up answers, and the rows of an accepted table; a refused one leaves none. Nobody makes one by
 // hand: `set_up`, `set_up_own` and `set_up_with` do.
-#[derive(Drop)]
+#[derive(Clone, Copy)]
 pub struct SetUp {
     answer: Checked,
     rows: Rows,

@@ -16,7 +16,7 @@ ghost use Rattle.table.specs.Table.{pack, no_rows, with_row};
 
 use tapa::Refusal;
 
-#[derive(Drop)]
+#[derive(Clone, Copy)]
 pub struct Row {
     pub address: u16,
     pub opened: bool,
@@ -24,14 +24,14 @@ pub struct Row {
 
 // Up to 16 rows by value, and whether there were more. Cells past the rows are zeros. Nobody makes one
 // by hand: `no_rows` and `with_row` do.
-#[derive(Drop)]
+#[derive(Clone, Copy)]
 pub struct Rows {
     cells: [u32; 16],
     count: usize,
     more: bool,
 }
 
-#[derive(Drop)]
+#[derive(Clone, Copy)]
 pub enum Checked {
     Accepted,
     Refused(Refusal),

@@ -16,7 +16,7 @@ ghost use Rattle.tapa.specs.Numbers.{word_at};
 // The refusals 1 to 20, in the order of their numbers. 3 is a message with fewer bytes than it
 // announces (a cable lost some), 19 one with more (two came as one, or a stale byte). 14 is a give up
 // of an address that has no wait, 20 of one whose handler still holds a question of its own.
-#[derive(Drop)]
+#[derive(Clone, Copy)]
 pub enum Refusal {
     TooShort,
     TooLong,
