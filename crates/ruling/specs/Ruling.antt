@@ -1,6 +1,6 @@
 -- What the functions that decide answer. The rules themselves are definitions of `rules`.
 use Rattle.std.specs.Prelude.{ℕ, List}
-use Rattle.std.specs.Borrow.{Bor}
+use Rattle.std.specs.Borrow.{MutBor}
 use denote.Triple.Both.{Both}
 use Rattle.message.specs.declared.Head.{Head}
 use Rattle.table.specs.Table.{rows_of}
@@ -17,13 +17,13 @@ use Rattle.ruling.specs.declared.Ruling.TheVariants.{Back, On}
 abbrev pub held_view : (cells : List ℕ) → (n : ℕ) → (list : List ℕ) → (k : ℕ) → View
 held_view c n l k = record { rows = rows_of c n; places = places_of l k }
 
--- ---- what is lent, at a call's entry and at its exit
+-- ---- what is lent to be changed, at a call's entry and at its exit
 
 abbrev pub Lent : Type 0
-Lent = Both (Bor (List ℕ)) (Bor (List ℕ))
+Lent = Both (MutBor (List ℕ)) (MutBor (List ℕ))
 
 -- what was lent, and what it is at the exit
-abbrev pub lent : (entry exit : Bor (List ℕ)) → Lent
+abbrev pub lent : (entry exit : MutBor (List ℕ)) → Lent
 lent entry exit = record { entry = entry; exit = exit }
 
 -- what the lent arrays held at the entry

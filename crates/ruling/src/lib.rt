@@ -6,9 +6,9 @@
 
 ghost use Rattle.std.specs.Prelude.{◌≡◌, ◌≤◌};
 ghost use Rattle.table.specs.Table.{rows_of};
-ghost use Rattle.places.specs.Places.{Lawful};
+ghost use Rattle.places.specs.Places.{Lawful, places_of};
 ghost use Rattle.rules.specs.Judge.{is_add_event, judge_event, closed_to, may_ask, busy, judge_command};
-ghost use Rattle.ruling.specs.Ruling.{view_in, places_in, ruled};
+ghost use Rattle.ruling.specs.Ruling.{held_view, ruled};
 
 use message::Head;
 use places::Standing;
@@ -59,7 +59,7 @@ fn is_closed(cells: &[u32; 16], count: usize, handler: u16, kind: u8) -> bool
 // Rule d: whether this source may ask on the thread.
 fn may_ask(list: &[u64; 48], len: usize, thread: u8, source: u16) -> bool
     requires { Lawful list.now len }
-    ensures { result ≡ may_ask (places_in list len) thread source }
+    ensures { result ≡ may_ask (places_of list.now len) thread source }
 {
     match router_walks::standing_of(list, len, thread, tapa::handler(source)) {
         Standing::Within => true,
@@ -71,7 +71,7 @@ fn may_ask(list: &[u64; 48], len: usize, thread: u8, source: u16) -> bool
 // Rule e: whether the handler is the asker, stands in the thread's tree, or has its slot taken.
 fn is_busy(list: &[u64; 48], len: usize, source: u16, handler: u16, thread: u8) -> bool
     requires { Lawful list.now len }
-    ensures { result ≡ busy (places_in list len) source handler thread }
+    ensures { result ≡ busy (places_of list.now len) source handler thread }
 {
     if handler == tapa::handler(source) {
         return true;
@@ -86,7 +86,7 @@ fn is_busy(list: &[u64; 48], len: usize, source: u16, handler: u16, thread: u8) 
 pub fn rule_for(cells: &[u32; 16], count: usize, list: &[u64; 48], len: usize, head: Head) -> Ruling
     requires lawful { Lawful list.now len }
     requires count_bound { count ≤ 16 }
-    ensures { ruled head result ≡ judge_command (view_in cells count list len) head }
+    ensures { ruled head result ≡ judge_command (held_view cells.now count list.now len) head }
 {
     let handler = tapa::handler(head.destination);
     if !router_rows::is_listed(cells, count, handler) {
