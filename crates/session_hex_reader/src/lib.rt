@@ -12,6 +12,7 @@ use hexes::{Ends, Spot, Step, Taken};
 // ---- one character
 
 // A digit's value, 16 for a blank, 17 for the end of a line, 18 for `#`, or 19.
+#[tactic(auto, unfolding(hexes::specs::Reading::class_of))]
 fn class(c: u8) -> u8
     ensures { result ≡ class_of c }
 {
@@ -43,6 +44,7 @@ fn class(c: u8) -> u8
 }
 
 // What a character of a class does, at a place.
+#[tactic(auto, unfolding(hexes::specs::Reading::step_of))]
 fn judge(mode: u8, mark: usize, kind: u8, i: usize) -> Step
     ensures { result ≡ step_of mode mark kind i }
 {
