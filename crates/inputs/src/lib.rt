@@ -38,6 +38,9 @@ const ENAMETOOLONG: i32 = 36;
 
 const EILSEQ: i32 = 84;
 
+// Where the system finds a name too long.
+const PATH_MAX: usize = 4096;
+
 // How many bytes of the buffer are the input's, and whether it was read to its end; where it was not, the
 // system's number says why. A full buffer counts as an end: who must see a longer input lends one byte more.
 #[derive(Drop)]
@@ -219,8 +222,11 @@ fn read_whole<R: Read>(from: &mut R, buf: &mut [u8]) -> Got
     }
 }
 
-// A file's name as `std` takes it, which is text; else the number that says so.
+// A file's name as `std` takes it, which is text; else the number that says why it takes none.
 pub fn path_of(name: &[u8]) -> Result<&str, i32> {
+    if PATH_MAX <= name.len() {
+        return Err(ENAMETOOLONG);
+    }
     match str::from_utf8(name) {
         Ok(path) => Ok(path),
         Err(_) => Err(EILSEQ),

@@ -11,41 +11,47 @@
 // an earlier boot. The new file is NAME.new.N, with the process's number: who has the lock next
 // finds in the lines what was left lying, and removes it.
 //
-// What fails is answered and not said; errno still has the system's reason. No contract can say
+// What fails is answered and not said, with the system's number of the reason. No contract can say
 // what is read or written, so those here speak of lengths only.
 #![tactic(auto)]
 
-ghost use Rattle.std.specs.Prelude.{◌<◌, ◌≤◌};
+ghost use Rattle.std.specs.Prelude.{◌<◌, ◌≤◌, length};
 ghost use Rattle.io.specs.Counts.{IsPrefixLen};
-ghost use Rattle.libc.specs.Io.{Ended};
 
-// What errno has where no process has a number.
-const ESRCH: i32 = 3;
+use std::fs::{File, OpenOptions};
+use std::io::{Error, ErrorKind, Write};
+use std::{fs, process};
+
+// The system's number for a file that is not there.
+pub const ENOENT: i32 = 2;
 
 // Whether a lock is ours, or another's: then the number of its process, or 0 where it is no lock. It
-// is neither where it cannot be made or read. And whether it was read, and has no other's line.
+// is neither where it cannot be made or read: then the system's number says why. And whether it was
+// read, and has no other's line.
 #[derive(Drop)]
 pub struct Lock {
     pub ours: bool,
     pub busy: bool,
     pub process: usize,
+    pub code: i32,
     alone: bool,
 }
 
 // The bytes are on the disk; the lock is not ours, and nothing was written; the write failed, and
-// the file is as it was; or it has its new bytes, and whether the disk has them is not known.
+// the file is as it was; or it has its new bytes, and whether the disk has them is not known. The
+// last two with the system's number of the reason.
 #[derive(Drop)]
 pub enum Kept {
     Whole,
     Lost,
-    Failed,
-    Unsure,
+    Failed(i32),
+    Unsure(i32),
 }
 
 // ---- names
 
 // A length, as far as there is room. A name that fills its buffer has no room for a path's end, so
-// `os` refuses it.
+// the system refuses it.
 fn fit(n: usize, name: &[u8]) -> usize
     ensures { IsPrefixLen result name.now }
 {
@@ -98,60 +104,69 @@ fn folder_length(path: &[u8]) -> usize
     n
 }
 
-// Opens the folder that a file stands in.
-fn open_folder(path: &[u8]) -> i32 {
+// Opens the folder that a file stands in; else the system's number says why not.
+fn open_folder(rt: HostRuntime, path: &[u8]) -> Result<File, i32> {
     let n = folder_length(path);
     if n == 0 {
-        return os::open_read(b".");
+        return open_read(rt, b".");
     }
-    os::open_read(&path[..n])
+    open_read(rt, &path[..n])
 }
 
-// A path as C reads it: its last byte is 0.
-fn ended(path: &[u8]) -> [u8; 4096]
-    ensures { Ended result }
-{
-    let mut name = io::buffer();
-    put(&mut name, 0, path);
-    name[4095] = 0;
-    name
+fn open_read(rt: HostRuntime, name: &[u8]) -> Result<File, i32> {
+    match inputs::path_of(name) {
+        Ok(path) => coded(File::open(&rt, path)),
+        Err(code) => Err(code),
+    }
+}
+
+// An open file; else the system's number of the error.
+fn coded(opened: Result<File, Error>) -> Result<File, i32> {
+    match opened {
+        Ok(file) => Ok(file),
+        Err(e) => Err(inputs::code_of(&e)),
+    }
 }
 
 // Whether a file is a symbolic link. To give a new file its name would replace the link.
-pub fn is_link(path: &[u8]) -> bool {
-    let name = ended(path);
-    let mut first = [0u8; 1];
-    0 <= libc::readlink(&name, &mut first)
+pub fn is_link(rt: HostRuntime, path: &[u8]) -> bool {
+    match inputs::path_of(path) {
+        Ok(name) => is_link_at(rt, name),
+        Err(_) => false,
+    }
+}
+
+fn is_link_at(rt: HostRuntime, path: &str) -> bool {
+    match fs::symlink_metadata(&rt, path) {
+        Ok(found) => found.is_symlink(),
+        Err(_) => false,
+    }
 }
 
 // ---- a line of the lock
 
-fn natural(x: i32) -> usize {
-    if 0 < x { x as usize } else { 0 }
-}
-
 // The number of this process.
-fn process() -> usize {
-    natural(libc::getpid())
+fn process(rt: HostRuntime) -> usize {
+    process::id(rt.process()) as usize
 }
 
 // The machine's boot, behind a line; nothing where it cannot be read.
-fn put_boot(line: &mut [u8], at: usize) -> usize
+fn put_boot(rt: HostRuntime, line: &mut [u8], at: usize) -> usize
     ensures { IsPrefixLen result line.new }
 {
     let mut id = [0u8; 36];
-    let got = inputs::read_file(b"/proc/sys/kernel/random/boot_id", &mut id);
+    let got = inputs::read_file(rt, b"/proc/sys/kernel/random/boot_id", &mut id);
     let n = got.length;
     put(line, at, &id[..n])
 }
 
 // The line of this process, without its end.
-fn own_line(line: &mut [u8]) -> usize
+fn own_line(rt: HostRuntime, line: &mut [u8]) -> usize
     ensures { IsPrefixLen result line.new }
 {
-    let n = put_number(line, 0, process());
+    let n = put_number(line, 0, process(rt));
     let m = put(line, n, b" ");
-    put_boot(line, m)
+    put_boot(rt, line, m)
 }
 
 // A digit's value; 10 where it is none.
@@ -187,9 +202,25 @@ fn number(line: &[u8]) -> usize
     n
 }
 
+// Where a byte stands first, from a place on; the length where it does not.
+fn find(text: &[u8], from: usize, byte: u8) -> usize
+    requires { from ≤ length text.now }
+    ensures lower_bound { from ≤ result }
+    ensures upper_bound { result ≤ length text.now }
+{
+    let mut i = from;
+    while i < text.len() {
+        if text[i] == byte {
+            return i;
+        }
+        i += 1;
+    }
+    i
+}
+
 // What stands in a line from its first space on.
 fn boot(line: &[u8]) -> &[u8] {
-    let at = bytes::scan::find(line, 0, line.len(), b' ');
+    let at = find(line, 0, b' ');
     &line[at..]
 }
 
@@ -200,12 +231,44 @@ fn is_of_another_boot(line: &[u8], own: &[u8]) -> bool {
     if theirs.len() < 2 || ours.len() < 2 {
         return false;
     }
-    !check::same(theirs, ours)
+    !octets::same(theirs, ours)
+}
+
+// Whether /proc has no process of that number.
+fn is_missing(rt: HostRuntime, process: usize) -> bool {
+    let mut name = [0u8; 32];
+    let n = put(&mut name, 0, b"/proc/");
+    let m = put_number(&mut name, n, process);
+    match inputs::path_of(&name[..m]) {
+        Ok(path) => is_missing_at(rt, path),
+        Err(_) => false,
+    }
+}
+
+fn is_missing_at(rt: HostRuntime, path: &str) -> bool {
+    match fs::symlink_metadata(&rt, path) {
+        Ok(_) => false,
+        Err(e) => e.kind() == ErrorKind::NotFound,
+    }
+}
+
+// Whether /proc tells of the processes that these numbers are of: it has this one under its own
+// number, and does not hide the first, as it may those of other users.
+fn is_told(rt: HostRuntime) -> bool {
+    let mut words = [0u8; 16];
+    let got = inputs::read_file(rt, b"/proc/self/stat", &mut words);
+    let n = got.length;
+    number(&words[..n]) == process(rt) && !is_missing(rt, 1)
+}
+
+// Whether it is known that no process has this number.
+fn is_gone(rt: HostRuntime, process: usize) -> bool {
+    is_missing(rt, process) && is_told(rt)
 }
 
 // The number of a line's process where it lives, else 0. This process has our line and no other:
 // another with its number is of one that is gone.
-fn living(line: &[u8], own: &[u8]) -> usize {
+fn living(rt: HostRuntime, line: &[u8], own: &[u8]) -> usize {
     let n = number(line);
     if n == 0 || n == number(own) {
         return 0;
@@ -213,7 +276,7 @@ fn living(line: &[u8], own: &[u8]) -> usize {
     if is_of_another_boot(line, own) {
         return 0;
     }
-    if libc::getpgid(n as i32) < 0 && os::errno() == ESRCH {
+    if is_gone(rt, n) {
         return 0;
     }
     n
@@ -228,18 +291,19 @@ fn is_ours_or_none(line: &[u8], own: &[u8]) -> bool {
 // ---- the lock
 
 // Whose the lock is by its lines: the first's whose process lives. Our line counts where it stands
-// last: an equal one before it is that of a process that is gone.
-fn judge(text: &[u8], own: &[u8]) -> Lock {
+// last: an equal one before it is that of a process that is gone. Where it is nobody's, our line is
+// not there.
+fn judge(rt: HostRuntime, text: &[u8], own: &[u8]) -> Lock {
     let mut ours = false;
     let mut alone = true;
     let mut other = 0;
     let mut i = 0;
     while i < text.len() {
-        let end = bytes::scan::find(text, i, text.len(), b'\n');
-        if check::same(&text[i..end], own) {
+        let end = find(text, i, b'\n');
+        if octets::same(&text[i..end], own) {
             ours = other == 0;
         } else if other == 0 {
-            other = living(&text[i..end], own);
+            other = living(rt, &text[i..end], own);
         }
         alone = alone && is_ours_or_none(&text[i..end], own);
         i = end + 1;
@@ -248,15 +312,17 @@ fn judge(text: &[u8], own: &[u8]) -> Lock {
         ours,
         busy: !ours && 0 < other,
         process: other,
+        code: ENOENT,
         alone,
     }
 }
 
-fn nobodys() -> Lock {
+fn nobodys(code: i32) -> Lock {
     Lock {
         ours: false,
         busy: false,
         process: 0,
+        code,
         alone: false,
     }
 }
@@ -284,46 +350,65 @@ fn is_lock(text: &[u8]) -> bool {
     true
 }
 
-// Whose a lock is. It is nobody's where it cannot be read, and errno says why. A file that is no
-// lock, or is too long for one, is somebody's: nothing is done to it.
-fn owner(lock: &[u8], own: &[u8]) -> Lock {
+// Whose a lock is. It is nobody's where it cannot be read. A file that is no lock, or is too long for
+// one, is somebody's: nothing is done to it.
+fn owner(rt: HostRuntime, lock: &[u8], own: &[u8]) -> Lock {
     let mut lines = io::buffer();
-    let got = inputs::read_file(lock, &mut lines);
+    let got = inputs::read_file(rt, lock, &mut lines);
     let n = got.length;
     if !got.whole {
-        return nobodys();
+        return nobodys(got.code);
     }
     if n < 4096 && is_lock(&lines[..n]) {
-        return judge(&lines[..n], own);
+        return judge(rt, &lines[..n], own);
     }
     Lock {
         ours: false,
         busy: true,
         process: 0,
+        code: 0,
         alone: false,
     }
 }
 
-// Opens a lock to add a line, and makes it where there is none.
-fn open_lock(lock: &[u8]) -> i32 {
-    let fd = os::open_append(lock);
-    if 0 <= fd || os::errno() != libc::ENOENT {
-        return fd;
-    }
-    let made = os::create(lock);
-    if 0 <= made {
-        libc::close(made);
-    } else if os::errno() != libc::EEXIST {
-        return made;
-    }
-    os::open_append(lock)
+// Opens a file to add to its end.
+fn open_append(rt: HostRuntime, path: &str) -> Result<File, Error> {
+    OpenOptions::new().append(true).open(&rt, path)
 }
 
-// Writes all to a file and has it on the disk, and closes it.
-fn fill(fd: i32, bytes: &[u8]) -> bool {
-    let written = io::write_all(fd, bytes) && libc::fsync(fd) == 0;
-    let closed = libc::close(fd) == 0;
-    written && closed
+// Makes a file to write to, where none has its name.
+fn create(rt: HostRuntime, path: &str) -> Result<File, Error> {
+    OpenOptions::new()
+        .write(true)
+        .create_new(true)
+        .open(&rt, path)
+}
+
+// Opens a lock to add a line, and makes it where there is none.
+fn open_lock(rt: HostRuntime, lock: &str) -> Result<File, Error> {
+    match open_append(rt, lock) {
+        Ok(file) => return Ok(file),
+        Err(e) => {
+            if e.kind() != ErrorKind::NotFound {
+                return Err(e);
+            }
+        }
+    }
+    match create(rt, lock) {
+        Ok(_) => {}
+        Err(e) => {
+            if e.kind() != ErrorKind::AlreadyExists {
+                return Err(e);
+            }
+        }
+    }
+    open_append(rt, lock)
+}
+
+// Writes all to a file and has it on the disk.
+fn fill(file: &mut File, bytes: &[u8]) -> Result<(), Error> {
+    file.write_all(bytes)?;
+    file.sync_all()
 }
 
 // A line as it is added: behind a line's end, since one before it may have been cut off.
@@ -335,61 +420,72 @@ fn put_line(own: &[u8], entry: &mut [u8]) -> usize
     put(entry, b, b"\n")
 }
 
-// Adds our line to a lock, at once. That the disk has it too is for what a loss of power leaves
-// lying; the lock does without.
-fn enlist(lock: &[u8], own: &[u8]) -> bool {
-    let fd = open_lock(lock);
-    if fd < 0 {
-        return false;
-    }
+// Adds our line to a lock, at once; else the system's number says why not. That the disk has it too is
+// for what a loss of power leaves lying; the lock does without.
+fn enlist(rt: HostRuntime, lock: &[u8], own: &[u8]) -> Result<(), i32> {
+    let path = inputs::path_of(lock)?;
+    let mut file = coded(open_lock(rt, path))?;
     let mut entry = [0u8; 128];
     let n = put_line(own, &mut entry);
-    let written = io::write_all(fd, &entry[..n]);
-    libc::fsync(fd);
-    libc::close(fd);
-    written
+    let written = file.write_all(&entry[..n]);
+    let _ = file.sync_all();
+    done(written)
+}
+
+// All right; else the system's number of the error.
+fn done(did: Result<(), Error>) -> Result<(), i32> {
+    match did {
+        Ok(()) => Ok(()),
+        Err(e) => Err(inputs::code_of(&e)),
+    }
 }
 
 // Takes a lock, unless it is another's.
-fn take_once(lock: &[u8], own: &[u8]) -> Lock {
-    let seen = owner(lock, own);
+fn take_once(rt: HostRuntime, lock: &[u8], own: &[u8]) -> Lock {
+    let seen = owner(rt, lock, own);
     if seen.busy {
         return seen;
     }
-    if !enlist(lock, own) {
-        return nobodys();
+    match enlist(rt, lock, own) {
+        Ok(()) => owner(rt, lock, own),
+        Err(code) => nobodys(code),
     }
-    owner(lock, own)
 }
 
 // Who had the lock may have removed it, with our line, just as we came: then once more.
-fn take_lock(lock: &[u8], own: &[u8]) -> Lock {
+fn take_lock(rt: HostRuntime, lock: &[u8], own: &[u8]) -> Lock {
     let mut tries: usize = 0;
     while tries < 8 {
-        let got = take_once(lock, own);
-        if got.ours || got.busy || os::errno() != libc::ENOENT {
+        let got = take_once(rt, lock, own);
+        if got.ours || got.busy || got.code != ENOENT {
             return got;
         }
         tries += 1;
     }
-    nobodys()
+    nobodys(ENOENT)
+}
+
+fn remove(rt: HostRuntime, name: &[u8]) {
+    if let Ok(path) = inputs::path_of(name) {
+        let _ = fs::remove_file(&rt, path);
+    }
 }
 
 // Removes the new file of a process.
-fn remove_new(path: &[u8], process: usize) {
+fn remove_new(rt: HostRuntime, path: &[u8], process: usize) {
     let mut name = io::buffer();
     let n = new_name(path, process, &mut name);
-    os::unlink(&name[..n]);
+    remove(rt, &name[..n]);
 }
 
 // Removes the new files of the processes that have lines.
-fn sweep(path: &[u8], lines: &[u8]) {
+fn sweep(rt: HostRuntime, path: &[u8], lines: &[u8]) {
     let mut i = 0;
     while i < lines.len() {
-        let end = bytes::scan::find(lines, i, lines.len(), b'\n');
+        let end = find(lines, i, b'\n');
         let process = number(&lines[i..end]);
         if 0 < process {
-            remove_new(path, process);
+            remove_new(rt, path, process);
         }
         i = end + 1;
     }
@@ -397,91 +493,108 @@ fn sweep(path: &[u8], lines: &[u8]) {
 
 // Removes what was left lying by programs that are gone, and then their lines. With that the folder
 // is on the disk: what they wrote last is, before anything is told of it.
-fn tidy(path: &[u8], lock: &[u8], own: &[u8]) {
+fn tidy(rt: HostRuntime, path: &[u8], lock: &[u8], own: &[u8]) {
     let mut lines = io::buffer();
-    let got = inputs::read_file(lock, &mut lines);
+    let got = inputs::read_file(rt, lock, &mut lines);
     let n = got.length;
-    sweep(path, &lines[..n]);
+    sweep(rt, path, &lines[..n]);
     let mut entry = [0u8; 128];
     let m = put_line(own, &mut entry);
     if m < n {
         let mut name = io::buffer();
-        let k = new_name(path, process(), &mut name);
-        replace(&name[..k], lock, &entry[..m]);
+        let k = new_name(path, process(rt), &mut name);
+        replace(rt, &name[..k], lock, &entry[..m]);
     }
 }
 
-// Takes the lock of a file. Where it is neither ours nor another's, errno says why.
-pub fn take(path: &[u8]) -> Lock {
+// Takes the lock of a file. Where it is neither ours nor another's, its number says why.
+pub fn take(rt: HostRuntime, path: &[u8]) -> Lock {
     let mut line = [0u8; 64];
-    let n = own_line(&mut line);
+    let n = own_line(rt, &mut line);
     let mut name = io::buffer();
     let m = lock_name(path, &mut name);
-    let lock = take_lock(&name[..m], &line[..n]);
+    let lock = take_lock(rt, &name[..m], &line[..n]);
     if lock.ours {
-        tidy(path, &name[..m], &line[..n]);
+        tidy(rt, path, &name[..m], &line[..n]);
     }
     lock
 }
 
 // Whose the lock of a file is.
-fn owner_of(path: &[u8]) -> Lock {
+fn owner_of(rt: HostRuntime, path: &[u8]) -> Lock {
     let mut line = [0u8; 64];
-    let n = own_line(&mut line);
+    let n = own_line(rt, &mut line);
     let mut name = io::buffer();
     let m = lock_name(path, &mut name);
-    owner(&name[..m], &line[..n])
+    owner(rt, &name[..m], &line[..n])
 }
 
 // Gives the lock of a file back. Where it could not be made, on a full disk, a file without a line
 // may be left, which is removed too.
-pub fn free(path: &[u8]) {
-    let lock = owner_of(path);
+pub fn free(rt: HostRuntime, path: &[u8]) {
+    let lock = owner_of(rt, path);
     if lock.ours || lock.alone {
         let mut name = io::buffer();
         let n = lock_name(path, &mut name);
-        os::unlink(&name[..n]);
+        remove(rt, &name[..n]);
     }
 }
 
 // ---- the file
 
 // Puts the bytes into a new file on the disk, and gives it another file's name. Where that fails
-// there is no new file, and the other is as it was.
-fn put_in_place(new: &[u8], path: &[u8], bytes: &[u8]) -> bool {
-    let fd = os::create(new);
-    if fd < 0 {
-        return false;
+// there is no new file, and the other is as it was; the system's number says why.
+fn put_in_place(rt: HostRuntime, new: &[u8], path: &[u8], bytes: &[u8]) -> Result<(), i32> {
+    let from = inputs::path_of(new)?;
+    let to = inputs::path_of(path)?;
+    let mut file = coded(create(rt, from))?;
+    let named = fill_and_name(rt, &mut file, from, to, bytes);
+    if named.is_err() {
+        remove(rt, new);
     }
-    if fill(fd, bytes) && os::rename(new, path) == 0 {
-        return true;
-    }
-    os::unlink(new);
-    false
+    done(named)
+}
+
+fn fill_and_name(
+    rt: HostRuntime,
+    file: &mut File,
+    new: &str,
+    path: &str,
+    bytes: &[u8],
+) -> Result<(), Error> {
+    fill(file, bytes)?;
+    fs::rename(&rt, new, path)
 }
 
 // The same, and then the name is on the disk too.
-fn replace(new: &[u8], path: &[u8], bytes: &[u8]) -> Kept {
-    let folder = open_folder(path);
-    if folder < 0 {
-        return Kept::Failed;
+fn replace(rt: HostRuntime, new: &[u8], path: &[u8], bytes: &[u8]) -> Kept {
+    match open_folder(rt, path) {
+        Ok(folder) => replace_in(rt, &folder, new, path, bytes),
+        Err(code) => Kept::Failed(code),
     }
-    let done = put_in_place(new, path, bytes);
-    let synced = done && libc::fsync(folder) == 0;
-    libc::close(folder);
-    if synced {
-        return Kept::Whole;
+}
+
+fn replace_in(rt: HostRuntime, folder: &File, new: &[u8], path: &[u8], bytes: &[u8]) -> Kept {
+    match put_in_place(rt, new, path, bytes) {
+        Ok(()) => synced(folder),
+        Err(code) => Kept::Failed(code),
     }
-    if done { Kept::Unsure } else { Kept::Failed }
+}
+
+fn synced(folder: &File) -> Kept {
+    match folder.sync_all() {
+        Ok(()) => Kept::Whole,
+        Err(e) => Kept::Unsure(inputs::code_of(&e)),
+    }
 }
 
 // The bytes, on the disk under this name; or that file as it was. The lock must be ours.
-pub fn write(path: &[u8], bytes: &[u8]) -> Kept {
-    let lock = owner_of(path);
+pub fn write(rt: HostRuntime, path: &[u8], bytes: &[u8]) -> Kept {
+    let lock = owner_of(rt, path);
     if !lock.ours {
         return Kept::Lost;
     }
     let mut name = io::buffer();
-    let n = new_name(path, process(), &mut name);
-    replace(&name[..n], path, bytes)
+    let n = new_name(path, process(rt), &mut name);
+    replace(rt, &name[..n], path, bytes)
 }
