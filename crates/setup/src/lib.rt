@@ -4,8 +4,7 @@
 // table) and then checked: the row count, and in three passes every row's shape, repeats, and the
 // number of multi rows. What each check says is defined in room table.
 //
-// `read_rows` and `set_up` are thin, since a slice of structs is proved by hand. All work is in
-// functions over the column.
+// `read_rows` and `set_up` are thin: all work is in functions over the column.
 //
 // What set-up hands back is made here alone, since a struct's fields are private to its crate: so every
 // one there is keeps its law (`Settled`).
@@ -183,8 +182,7 @@ pub fn set_up(rows: &[Row]) -> SetUp
     set_up_with(read_rows(rows))
 }
 
-// Lends the first rows of an array. No slice of structs stands in its signature, so that
-// whoever calls it needs no proof by hand.
+// Lends the first rows of an array.
 fn lend(rows: [Row; 17], count: usize) -> SetUp
     requires { count ≤ 17 }
     ensures { result ≡ set_up_of (take count rows) }
