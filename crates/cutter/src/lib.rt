@@ -9,14 +9,14 @@
 use tapa::Refusal;
 
 // Whether a message can be cut: a response's thread, or why not.
-#[derive(Drop)]
+#[derive(Clone, Copy)]
 pub enum Start {
     Ready(u8),
     Refused(Refusal),
 }
 
 // What one handing out gives: a command of so many bytes, or that all were handed out.
-#[derive(Drop)]
+#[derive(Clone, Copy)]
 pub enum Cut {
     Command(usize),
     Done,
@@ -24,14 +24,14 @@ pub enum Cut {
 }
 
 // A handing out, and the place after it.
-#[derive(Drop)]
+#[derive(Clone, Copy)]
 pub struct Handed {
     pub cut: Cut,
     pub next: usize,
 }
 
 // A response's data and the place in it, with the thread that the commands bear.
-#[derive(Drop)]
+#[derive(Clone, Copy)]
 pub struct Cutter<'a> {
     pub part: &'a [u8],
     pub thread: u8,
@@ -39,21 +39,21 @@ pub struct Cutter<'a> {
 }
 
 // A handing out, and the cutter at the next place.
-#[derive(Drop)]
+#[derive(Clone, Copy)]
 pub struct Step<'a> {
     pub cut: Cut,
     pub rest: Cutter<'a>,
 }
 
 // A start, and the cutter at the first place. A refused start has nothing to cut.
-#[derive(Drop)]
+#[derive(Clone, Copy)]
 pub struct Begun<'a> {
     pub start: Start,
     pub cutter: Cutter<'a>,
 }
 
 // A start, the first handing out and the place after it.
-#[derive(Drop)]
+#[derive(Clone, Copy)]
 pub struct First {
     pub start: Start,
     pub cut: Cut,

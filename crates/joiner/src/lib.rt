@@ -10,7 +10,7 @@
 use tapa::Refusal;
 
 // How many bytes are joined, and for each thread whether a source is kept, and which.
-#[derive(Drop)]
+#[derive(Clone, Copy)]
 pub struct Joiner {
     pub joined: usize,
     pub sources: [u16; 8],
@@ -18,7 +18,7 @@ pub struct Joiner {
 }
 
 // What a piece is, by its size and status.
-#[derive(Drop)]
+#[derive(Clone, Copy)]
 pub enum Taking {
     NotLast,
     Last,
@@ -26,7 +26,7 @@ pub enum Taking {
 }
 
 // What the joined bytes are: a message as it stands, or a response to be sent to this address.
-#[derive(Drop)]
+#[derive(Clone, Copy)]
 pub enum Whole {
     Plain,
     Response(u16),
@@ -34,26 +34,26 @@ pub enum Whole {
 }
 
 // Get Next is to be sent, or the buffer starts with a message of so many bytes.
-#[derive(Drop)]
+#[derive(Clone, Copy)]
 pub enum Answer {
     More,
     Message(usize),
     Refused(Refusal),
 }
 
-#[derive(Drop)]
+#[derive(Clone, Copy)]
 pub struct Joined {
     pub answer: Answer,
     pub next: Joiner,
 }
 
-#[derive(Drop)]
+#[derive(Clone, Copy)]
 pub enum Keeping {
     Done,
     Refused(Refusal),
 }
 
-#[derive(Drop)]
+#[derive(Clone, Copy)]
 pub struct Kept {
     pub answer: Keeping,
     pub next: Joiner,
