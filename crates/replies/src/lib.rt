@@ -21,7 +21,7 @@ use message::{Head, Reading, Writing};
 use tapa::Refusal;
 
 // A message that a part may take, or why it is not looked at further.
-#[derive(Drop)]
+#[derive(Clone, Copy)]
 pub enum Checked {
     Passed(Head),
     Failed(Refusal),
@@ -29,7 +29,7 @@ pub enum Checked {
 
 // The length of the reply in the lent buffer, or why there is none. `Nothing` is of an Add Event,
 // which has no reply.
-#[derive(Drop)]
+#[derive(Clone, Copy)]
 pub enum Answer {
     Reply(usize),
     Nothing,
