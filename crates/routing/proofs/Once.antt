@@ -2,7 +2,7 @@
 use Prim.Native.Nat.{ℕ}
 use mathlib.Core.Path.{◌≡◌, sym, ◌∙◌}
 use mathlib.Core.List.{List, []}
-use denote.Ref.{Bor}
+use denote.Ref.{MutBor}
 use Rattle.lists.proofs.Arrays.{one-array}
 use Rattle.message.specs.declared.Head.{Head}
 use Rattle.message.specs.declared.Coded.{Coded}
@@ -11,7 +11,7 @@ use Rattle.place.specs.declared.Place.{Place}
 use Rattle.places.proofs.Once.{one_list}
 use Rattle.rules.specs.View.{View}
 use Rattle.rules.specs.declared.Outcome.{Outcome}
-use Rattle.ruling.specs.Ruling.{Lent, lent}
+use Rattle.ruling.specs.Ruling.{Shown, lent}
 use Rattle.routing.specs.declared.Step.{Step}
 use Rattle.routing.specs.Steps.{Placing, Moving, OnMessage, OnResponse, OnGiveUp, OnReplaced}
 
@@ -29,9 +29,9 @@ module _ (o : Outcome) (l l' : List ℕ) (s s' : Step) where
       let p = one-placing v.places x.placing y.placing in
       (p.0, p.1, (one-array 16 pack unpack _ c c' n n x.table y.table).1)
 
-module _ (list l l' : Bor (List ℕ)) (k : ℕ) (s s' : Step) where
-  module _ (cells c c' : Bor (List ℕ)) (n : ℕ) where
-    pub one-on-message : (message : Lent) (reply b b' : Bor (List ℕ))
+module _ (list l l' : MutBor (List ℕ)) (k : ℕ) (s s' : Step) where
+  module _ (cells c c' : MutBor (List ℕ)) (n : ℕ) where
+    pub one-on-message : (message : Shown) (reply b b' : MutBor (List ℕ))
         → OnMessage (lent cells c) n (lent list l) k message (lent reply b) s
         → OnMessage (lent cells c') n (lent list l') k message (lent reply b') s'
         → (s ≡ s') × (l.now ≡ l'.now) × (c.now ≡ c'.now) × (b.now ≡ b'.now)
@@ -51,7 +51,7 @@ module _ (list l l' : Bor (List ℕ)) (k : ℕ) (s s' : Step) where
         → (s ≡ s') × (l.now ≡ l'.now) × (c.now ≡ c'.now)
     one-on-replaced address = one-moving _ l.now l'.now s s' _ c.now c'.now n
 
-  pub one-on-give-up : (thread address : ℕ) (reply b b' : Bor (List ℕ))
+  pub one-on-give-up : (thread address : ℕ) (reply b b' : MutBor (List ℕ))
       → OnGiveUp (lent list l) k thread address (lent reply b) s
       → OnGiveUp (lent list l') k thread address (lent reply b') s'
       → (s ≡ s') × (l.now ≡ l'.now) × (b.now ≡ b'.now)

@@ -14,7 +14,7 @@ use Rattle.rules.specs.declared.Outcome.{Outcome}
 use Rattle.rules.specs.declared.Outcome.TheVariants.{Refused}
 use Rattle.rules.specs.Judge.{judge_message, judge_response, judge_give_up, judge_replaced}
 use Rattle.rules.specs.Apply.{answered_rows, rows_after, places_after, written}
-use Rattle.ruling.specs.Ruling.{Lent, places_in, view_in}
+use Rattle.ruling.specs.Ruling.{Lent, Shown, places_in, view_in}
 use Rattle.routing.specs.declared.Step.{Step}
 
 -- the step of a refusal
@@ -64,7 +64,7 @@ Stepped o cells n list k reply s =
 
 -- ---- the calls
 
-abbrev pub OnMessage : (cells : Lent) → (n : ℕ) → (list : Lent) → (k : ℕ) → (message reply : Lent) → Step → Type 0
+abbrev pub OnMessage : (cells : Lent) → (n : ℕ) → (list : Lent) → (k : ℕ) → (message : Shown) → (reply : Lent) → Step → Type 0
 OnMessage cells n list k message reply s =
     Stepped (judge_message (view_in cells n list k) (length reply.entry.now) message.entry.now) cells n list k reply s
 

@@ -1,6 +1,6 @@
 -- What the functions that decide answer. The rules themselves are definitions of `rules`.
 use Rattle.std.specs.Prelude.{ℕ, List}
-use Rattle.std.specs.Borrow.{MutBor}
+use Rattle.std.specs.Borrow.{Bor, MutBor}
 use denote.Triple.Both.{Both}
 use Rattle.message.specs.declared.Head.{Head}
 use Rattle.table.specs.Table.{rows_of}
@@ -25,6 +25,10 @@ Lent = Both (MutBor (List ℕ)) (MutBor (List ℕ))
 -- what was lent, and what it is at the exit
 abbrev pub lent : (entry exit : MutBor (List ℕ)) → Lent
 lent entry exit = record { entry = entry; exit = exit }
+
+-- what is lent to be read only
+abbrev pub Shown : Type 0
+Shown = Both (Bor (List ℕ)) (Bor (List ℕ))
 
 -- what the lent arrays held at the entry
 abbrev pub places_in : (list : Lent) → (k : ℕ) → List Place
