@@ -14,7 +14,7 @@ use queue::{Event, Queue, Search, Stretch};
 use replies::Answer;
 
 // A message as the queue reads it. A wrong Add is apart, since it has no reply.
-#[derive(Drop)]
+#[derive(Clone, Copy)]
 pub enum Command {
     Add(Event),
     WrongAdd,
@@ -25,7 +25,7 @@ pub enum Command {
 }
 
 // What is decided of a command.
-#[derive(Drop)]
+#[derive(Clone, Copy)]
 pub enum Outcome {
     Added(Event),
     Ignored,
@@ -35,14 +35,14 @@ pub enum Outcome {
 }
 
 // What a message came to in place: the answer, and which places of the ring then hold events.
-#[derive(Drop)]
+#[derive(Clone, Copy)]
 pub struct Step {
     pub answer: Answer,
     pub stretch: Stretch,
 }
 
 // What a message came to, beside the queue as it then is.
-#[derive(Drop)]
+#[derive(Clone, Copy)]
 pub struct Handled {
     pub answer: Answer,
     pub next: Queue,
