@@ -1,0 +1,14 @@
+-- One file more a round.
+use Rattle.std.proofs.Common.{refl, length-set, arith}
+use Rattle.file_commands.proofs.Making.{making-more}
+use Rattle.file_commands.proofs.create.Goals as goal
+
+pub loop-i-preserved : goal.loop-i-preserved
+loop-i-preserved c =
+    let a = c.args in
+    let s = c.loop-i in (
+      refl,
+      s.invariant.1,
+      simp length-set s.invariant.2,
+      making-more a.n a.keymax a.recmax a.b s.invariant.1 s.ids s.next s.i s.invariant.3 c.with_file-one.result (omega arith) c.with_file-one.ensures,
+    )
