@@ -1,6 +1,6 @@
 -- Histories that the premises on marks let in. A premise that asked more of a device than the page does, and counted refused responses, or barred older
 -- marks at a replaced call of another handler or at one that was refused, would shut them out.
-use Rattle.std.specs.Prelude.{ℕ, ◌≡◌, Bool, true, cond, List, [], ◌∷◌, map, eqb}
+use Rattle.std.specs.Prelude.{ℕ, ◌≡◌, true, cond, List, [], ◌∷◌, map, eqb}
 use Rattle.tapa.specs.Said.{Said, refused, says, passed, answered, swallowed, given, reset}
 use Rattle.table.specs.declared.Row.{Row}
 use Rattle.rules.specs.Judge.{Call, message, give_up, replaced}
