@@ -5,7 +5,6 @@ use mathlib.Core.Bool.{true}
 use mathlib.Core.List.{List, [], ◌∷◌, map}
 use lib.ListN.{take, drop, replicate}
 use Rattle.tapa.specs.Address.{category_of, handler_of, multi}
-use Rattle.tapa.specs.Said.{Said, refused, says, yes, no}
 use Rattle.known_types.specs.Types.{own, common}
 use Rattle.message.specs.Message.{read_of, part_of, code_of}
 use Rattle.table.specs.declared.Row.{Row}
@@ -14,7 +13,7 @@ use Rattle.rules.specs.Judge.{Call, message, give_up, replaced, judge, late, rep
 use Rattle.rules.specs.Apply.{applied, answered_rows}
 use Rattle.numbers.specs.Numbers.{cell_in, cell_of, no_numbers, numbers_after, raised_in}
 use Rattle.numbers.specs.Free.{free_of, free_in}
-use Rattle.numbers.specs.Said.{said_freedom}
+use Rattle.numbers.specs.Said.{Said, refused, says, yes, no, said_freedom}
 
 -- ---- a fresh router with some calls, the newest first: the view, and the numbers beside it
 

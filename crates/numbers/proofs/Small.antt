@@ -13,7 +13,6 @@ use Rattle.lists.proofs.Counts.{none-zero, count-all}
 use Rattle.lists.proofs.First.{first-yes, first_some, first-has}
 use Rattle.tapa.specs.Address.{handler_of}
 use Rattle.table.specs.Table.{Proper}
-use Rattle.place.specs.declared.Place.{Place}
 use Rattle.places.specs.Places.{on_slot}
 use Rattle.rules.specs.View.{View}
 use Rattle.rules.specs.Conduct.{Placed, Conduct}
