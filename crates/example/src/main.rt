@@ -5,9 +5,9 @@
 
 ghost use Rattle.router.specs.Router.{Lawful};
 
-use libc::{STDERR_FILENO, STDOUT_FILENO};
 use router::Router;
 use start::Started;
+use std::io::Print;
 use table::{Checked, Row};
 
 // A fresh router over the till driver '0100' and the security module '0001', both open: two lent
@@ -29,39 +29,39 @@ fn begin() -> Started
 }
 
 // Sends a part on: here, as a line of hexadecimal digits.
-fn send(part: &[u8]) {
+fn send(rt: HostRuntime, part: &[u8]) {
     let mut line = [0u8; 64];
     let at = text::put_all_hex(&mut line, 0, part);
     let end = text::put(&mut line, at, b'\n');
     if end <= 64 {
-        io::write_all(STDOUT_FILENO, &line[..end]);
+        let _ = rt.stdout().write_all(&line[..end]);
     }
 }
 
 // Routes one message, sends what is to be sent, and hands the next state back.
-fn carry(router: Router, message: &[u8]) -> Router
+fn carry(rt: HostRuntime, router: Router, message: &[u8]) -> Router
     requires { Lawful router }
     ensures { Lawful result }
 {
     let mut reply = [0u8; 10];
     let routed = router.route(message, &mut reply);
     let outcome = routed.outcome;
-    send(sending::part_to_send(outcome, message, &reply));
+    send(rt, sending::part_to_send(outcome, message, &reply));
     routed.next
 }
 
-fn main() {
+fn main(rt: HostRuntime) {
     let started = begin();
     // A refused table leaves a router that carries nothing, so the answer is looked at first.
     let answer = started.answer;
     let Checked::Accepted = answer else {
-        io::write_all(STDERR_FILENO, b"example: the table is refused\n");
+        let _ = rt.stderr().write_all(b"example: the table is refused\n");
         return;
     };
     let kiosk = started.router;
     // Thread 3: an ICC command with one data byte, and its response with the code '0000'.
-    let asked = carry(kiosk, b"\x00\x01\x01\x00\x42\x03\x00\x01\xAA");
-    let answered = carry(asked, b"\x01\x00\x00\x01\xFF\x03\x00\x02\x00\x00");
+    let asked = carry(rt, kiosk, b"\x00\x01\x01\x00\x42\x03\x00\x01\xAA");
+    let answered = carry(rt, asked, b"\x01\x00\x00\x01\xFF\x03\x00\x02\x00\x00");
     // The same response again belongs to no question: it is refused, and nothing goes on.
-    carry(answered, b"\x01\x00\x00\x01\xFF\x03\x00\x02\x00\x00");
+    carry(rt, answered, b"\x01\x00\x00\x01\xFF\x03\x00\x02\x00\x00");
 }

@@ -11,10 +11,16 @@
 #![tactic(auto)]
 
 // Prints the blocks of one input; false where they cannot be written.
-fn show(sheet: &[u8; 65536], input: &[u8], page: &mut [u8; 65536], words: &mut [u8; 8192]) -> bool {
+fn show(
+    rt: HostRuntime,
+    sheet: &[u8; 65536],
+    input: &[u8],
+    page: &mut [u8; 65536],
+    words: &mut [u8; 8192],
+) -> bool {
     let rows = show_blocks::preface(input, sheet, page, words);
     let front = &page[..];
-    if !inputs::write(b"explain", &front[..rows]) {
+    if !inputs::write(rt, b"explain", &front[..rows]) {
         return false;
     }
     let mut session = session_begun::begin(input);
@@ -22,7 +28,7 @@ fn show(sheet: &[u8; 65536], input: &[u8], page: &mut [u8; 65536], words: &mut [
         let filled = show_blocks::fill_page(session, input, sheet, page, words);
         let used = filled.used;
         let all = &page[..];
-        if !inputs::write(b"explain", &all[..used]) {
+        if !inputs::write(rt, b"explain", &all[..used]) {
             return false;
         }
         if !filled.more {
@@ -34,21 +40,21 @@ fn show(sheet: &[u8; 65536], input: &[u8], page: &mut [u8; 65536], words: &mut [
 
 // The sheet and the buffers are made once, and lent. One byte more than a session file may have is
 // read, so that a longer one is seen.
-fn main() {
+fn main(rt: HostRuntime) {
     let mut sheet = io::large_buffer();
     sentences::write_sheet(&mut sheet);
     let mut input = [0u8; 65537];
     let mut page = io::large_buffer();
     let mut words = [0u8; 8192];
-    let count = os::arg_count();
-    let mut i = inputs::first_name();
+    let count = inputs::count(rt);
+    let mut i = inputs::first_name(rt);
     loop {
-        let came = inputs::next(b"explain", b"a session file", i, count, &mut input);
+        let came = inputs::next(rt, b"explain", b"a session file", i, count, &mut input);
         let n = came.length;
         if !came.some {
             return;
         }
-        if !show(&sheet, &input[..n], &mut page, &mut words) {
+        if !show(rt, &sheet, &input[..n], &mut page, &mut words) {
             return;
         }
         i = came.next;

@@ -15,6 +15,7 @@
 ghost use Rattle.std.specs.Prelude.{◌≤◌, ◌<◌, ◌≡◌, length};
 
 use hexes::Ends;
+use std::env::Env;
 
 // Room for the longest text, and one character more.
 fn large_text() -> [u8; 524289]
@@ -24,13 +25,13 @@ fn large_text() -> [u8; 524289]
 }
 
 // A mistake that no call of the system made.
-fn refuse(why: &[u8]) {
-    inputs::say(b"hex", why);
-    inputs::tell(b"1");
+fn refuse(rt: HostRuntime, why: &[u8]) {
+    inputs::say(rt, b"hex", why);
+    inputs::tell(rt, b"1");
 }
 
 // Names the place of a mistake.
-fn refuse_at(text: &[u8], at: usize, why: &[u8]) {
+fn refuse_at(rt: HostRuntime, text: &[u8], at: usize, why: &[u8]) {
     let spot = session_hex_reader::locate(text, at);
     let mut line = [0u8; 128];
     let a = text::put_all(&mut line, 0, b"line ");
@@ -39,30 +40,30 @@ fn refuse_at(text: &[u8], at: usize, why: &[u8]) {
     let d = text::put_decimal(&mut line, c, spot.column);
     let e = text::put_all(&mut line, d, why);
     if e <= 128 {
-        refuse(&line[..e]);
+        refuse(rt, &line[..e]);
     }
 }
 
 // Writes what stands at the start of a buffer.
-fn send(bytes: &[u8], used: usize) -> bool {
+fn send(rt: HostRuntime, bytes: &[u8], used: usize) -> bool {
     if bytes.len() < used {
         return false;
     }
-    inputs::write(b"hex", &bytes[..used])
+    inputs::write(rt, b"hex", &bytes[..used])
 }
 
-fn show_bytes(text: &[u8]) {
+fn show_bytes(rt: HostRuntime, text: &[u8]) {
     let mut out = io::large_buffer();
     let taken = session_hex_reader::read(text, &mut out);
     let ends = taken.ends;
     match ends {
-        Ends::Odd(at) => refuse_at(text, at, b": a digit without its second one"),
-        Ends::Foreign(at) => refuse_at(text, at, b": no hex digit"),
+        Ends::Odd(at) => refuse_at(rt, text, at, b": a digit without its second one"),
+        Ends::Foreign(at) => refuse_at(rt, text, at, b": no hex digit"),
         Ends::Whole => {
             if 65536 < taken.count {
-                refuse(b"the text has more than 65,536 bytes");
+                refuse(rt, b"the text has more than 65,536 bytes");
             } else {
-                send(&out, taken.length);
+                send(rt, &out, taken.length);
             }
         }
     }
@@ -80,69 +81,76 @@ fn part_end(bytes: &[u8], i: usize) -> usize
     i + 4096
 }
 
-fn show_text(bytes: &[u8]) {
+fn show_text(rt: HostRuntime, bytes: &[u8]) {
     let mut page = io::large_buffer();
     let mut cursor = session_hex_writer::fresh();
     let mut i = 0;
     while i < bytes.len() {
         let end = part_end(bytes, i);
         let written = session_hex_writer::write(cursor, &bytes[i..end], &mut page);
-        if !send(&page, written.used) {
+        if !send(rt, &page, written.used) {
             return;
         }
         cursor = written.next;
         i = end;
     }
     let used = session_hex_writer::write_end(cursor, &mut page);
-    send(&page, used);
+    send(rt, &page, used);
 }
 
-fn from_text(i: usize) {
+fn from_text(rt: HostRuntime, i: usize) {
     let mut text = large_text();
-    let got = inputs::read(b"hex", b"hex text", i, &mut text);
+    let got = inputs::read(rt, b"hex", b"hex text", i, &mut text);
     let n = got.length;
     if 524288 < n {
-        refuse(b"the text has more than 524,288 characters");
+        refuse(rt, b"the text has more than 524,288 characters");
         return;
     }
     if got.whole {
-        show_bytes(&text[..n]);
+        show_bytes(rt, &text[..n]);
     }
 }
 
-fn from_bytes(i: usize) {
+fn from_bytes(rt: HostRuntime, i: usize) {
     let mut bytes = [0u8; 65537];
-    let got = inputs::read(b"hex", b"a session file", i, &mut bytes);
+    let got = inputs::read(rt, b"hex", b"a session file", i, &mut bytes);
     let n = got.length;
     if 65536 < n {
-        refuse(b"the file has more than 65,536 bytes");
+        refuse(rt, b"the file has more than 65,536 bytes");
         return;
     }
     if got.whole {
-        show_text(&bytes[..n]);
+        show_text(rt, &bytes[..n]);
     }
 }
 
 // Whether argument i is the last, or there is none.
-fn is_last(i: usize) -> bool {
-    let count = os::arg_count();
+fn is_last(rt: HostRuntime, i: usize) -> bool {
+    let count = inputs::count(rt);
     count == 0 || count - 1 <= i
 }
 
-fn main() {
-    let first = inputs::first_name();
+// Whether argument i is `-d`.
+fn is_back(rt: HostRuntime, i: usize) -> bool {
     let mut word = io::buffer();
-    let n = os::arg(first, &mut word);
-    let is_back = check::same(&word[..n], b"-d");
+    match rt.arg(i, &mut word) {
+        Ok(n) => octets::same(&word[..n], b"-d"),
+        Err(_) => false,
+    }
+}
+
+fn main(rt: HostRuntime) {
+    let first = inputs::first_name(rt);
+    let is_back = is_back(rt, first);
     let at = if is_back { first + 1 } else { first };
-    if !is_last(at) {
-        inputs::say(b"hex", b"one file at a time");
-        inputs::tell(b"2");
+    if !is_last(rt, at) {
+        inputs::say(rt, b"hex", b"one file at a time");
+        inputs::tell(rt, b"2");
         return;
     }
     if is_back {
-        from_bytes(at);
+        from_bytes(rt, at);
     } else {
-        from_text(at);
+        from_text(rt, at);
     }
 }

@@ -26,17 +26,20 @@ use std::{fmt, str};
 // Where failures are told.
 const STATUS_FILENO: i32 = 3;
 
-// The system's number for an error that has none of its own: input or output failed.
-const EIO: i32 = 5;
+// The system's number for a file that is not there.
+pub const ENOENT: i32 = 2;
 
-// For memory that ran out, an argument that cannot be, a name that is too long, and one that is no text.
+// For a name that is too long, and one that is no text.
+pub const ENAMETOOLONG: i32 = 36;
+
+const EILSEQ: i32 = 84;
+
+// For memory that ran out, for what cannot be asked, and for any other error that has no number of its own.
 const ENOMEM: i32 = 12;
 
 const EINVAL: i32 = 22;
 
-const ENAMETOOLONG: i32 = 36;
-
-const EILSEQ: i32 = 84;
+const EIO: i32 = 5;
 
 // Where the system finds a name too long.
 const PATH_MAX: usize = 4096;

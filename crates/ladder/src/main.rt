@@ -11,6 +11,7 @@
 
 // Draws the rows of one input; false where they cannot be written.
 fn show_rows(
+    rt: HostRuntime,
     sheet: &[u8; 65536],
     input: &[u8],
     total: usize,
@@ -22,7 +23,7 @@ fn show_rows(
         let filled = picture::fill_page(session, total, input, sheet, page, list);
         let used = filled.used;
         let all = &page[..];
-        if !inputs::write(b"ladder", &all[..used]) {
+        if !inputs::write(rt, b"ladder", &all[..used]) {
             return false;
         }
         if !filled.more {
@@ -33,36 +34,36 @@ fn show_rows(
 }
 
 // The page and the list of forms are made once, and lent.
-fn show(sheet: &[u8; 65536], input: &[u8]) {
+fn show(rt: HostRuntime, sheet: &[u8; 65536], input: &[u8]) {
     let mut page = io::large_buffer();
     let mut list = [0usize; 2048];
     let total = picture::count_rows(session_begun::begin(input), input);
     let begun = picture::opening(total, sheet, &mut page, &mut list);
-    if !inputs::write(b"ladder", &page[..begun]) {
+    if !inputs::write(rt, b"ladder", &page[..begun]) {
         return;
     }
-    if !show_rows(sheet, input, total, &mut page, &mut list) {
+    if !show_rows(rt, sheet, input, total, &mut page, &mut list) {
         return;
     }
     let ended = picture::closing(sheet, &mut page, &mut list);
-    inputs::write(b"ladder", &page[..ended]);
+    inputs::write(rt, b"ladder", &page[..ended]);
 }
 
 // One picture at a time: two would be no file that a browser shows. One byte more than a session file
 // may have is read, so that a longer one is seen.
-fn main() {
-    let first = inputs::first_name();
-    if first + 1 < os::arg_count() {
-        inputs::say(b"ladder", b"one file at a time");
-        inputs::tell(b"2");
+fn main(rt: HostRuntime) {
+    let first = inputs::first_name(rt);
+    if first + 1 < inputs::count(rt) {
+        inputs::say(rt, b"ladder", b"one file at a time");
+        inputs::tell(rt, b"2");
         return;
     }
     let mut sheet = io::large_buffer();
     stencil::write_sheet(&mut sheet);
     let mut input = [0u8; 65537];
-    let got = inputs::read(b"ladder", b"a session file", first, &mut input);
+    let got = inputs::read(rt, b"ladder", b"a session file", first, &mut input);
     let n = got.length;
     if got.whole {
-        show(&sheet, &input[..n]);
+        show(rt, &sheet, &input[..n]);
     }
 }

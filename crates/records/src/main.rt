@@ -16,7 +16,8 @@ ghost use Rattle.records.specs.Records.{Held, Keeps, Room, Turned};
 use book::Book;
 use image::Saved;
 use layout::Verdict;
-use libc::STDERR_FILENO;
+use std::env::{Env, FillError};
+use std::io::Print;
 use vault::Kept;
 
 // Whether a store is on the disk, and how long the image is that was kept last.
@@ -36,59 +37,63 @@ struct Turn {
 
 // ---- what is said
 
-fn start_line(path: &[u8]) {
-    io::write_all(STDERR_FILENO, b"records: ");
-    io::write_all(STDERR_FILENO, path);
-    io::write_all(STDERR_FILENO, b": ");
+// Puts bytes on standard error. Where that fails there is nobody to tell.
+fn put(rt: HostRuntime, bytes: &[u8]) {
+    let _ = rt.stderr().write_all(bytes);
+}
+
+fn start_line(rt: HostRuntime, path: &[u8]) {
+    put(rt, b"records: ");
+    put(rt, path);
+    put(rt, b": ");
 }
 
 // Says what is wrong with the image.
-fn say(path: &[u8], what: &[u8]) {
-    start_line(path);
-    io::write_all(STDERR_FILENO, what);
-    io::write_all(STDERR_FILENO, b"\n");
-    inputs::tell(b"1");
+fn say(rt: HostRuntime, path: &[u8], what: &[u8]) {
+    start_line(rt, path);
+    put(rt, what);
+    put(rt, b"\n");
+    inputs::tell(rt, b"1");
 }
 
 // Says what failed, with the system's reason.
-fn fail(path: &[u8], what: &[u8]) {
-    start_line(path);
-    os::fail(what);
-    inputs::tell(b"1");
+fn fail(rt: HostRuntime, path: &[u8], what: &[u8], code: i32) {
+    start_line(rt, path);
+    inputs::say_why(rt, what, code);
+    inputs::tell(rt, b"1");
 }
 
 // Says that another program has the lock, or that another file has its name.
-fn say_busy(path: &[u8], process: usize) {
-    start_line(path);
+fn say_busy(rt: HostRuntime, path: &[u8], process: usize) {
+    start_line(rt, path);
     if process == 0 {
-        io::write_all(STDERR_FILENO, path);
-        io::write_all(
-            STDERR_FILENO,
-            b".lock is in the way, and is no lock of this program\n",
-        );
+        put(rt, path);
+        put(rt, b".lock is in the way, and is no lock of this program\n");
     } else {
-        io::write_all(STDERR_FILENO, b"another program is at work on it (process ");
-        io::print_decimal(STDERR_FILENO, process as u64);
-        io::write_all(STDERR_FILENO, b"); if there is none, remove ");
-        io::write_all(STDERR_FILENO, path);
-        io::write_all(STDERR_FILENO, b".lock\n");
+        put(rt, b"another program is at work on it (process ");
+        let _ = rt.stderr().print(process);
+        put(rt, b"); if there is none, remove ");
+        put(rt, path);
+        put(rt, b".lock\n");
     }
-    inputs::tell(b"1");
+    inputs::tell(rt, b"1");
 }
 
 // Says what is wrong with bytes that are no whole image.
-fn say_flaw(path: &[u8], verdict: Verdict) {
+fn say_flaw(rt: HostRuntime, path: &[u8], verdict: Verdict) {
     match verdict {
         Verdict::Whole => {}
         Verdict::Area => {}
-        Verdict::Foreign => say(path, b"it is no image of a data store"),
-        Verdict::Version => say(path, b"it is an image of another version"),
-        Verdict::Cut => say(path, b"it is cut short, or has bytes behind its end"),
+        Verdict::Foreign => say(rt, path, b"it is no image of a data store"),
+        Verdict::Version => say(rt, path, b"it is an image of another version"),
+        Verdict::Cut => say(rt, path, b"it is cut short, or has bytes behind its end"),
         Verdict::Sum => say(
+            rt,
             path,
             b"its bytes are not those that were written: the checksum differs",
         ),
         Verdict::Bent => say(
+            rt,
             path,
             b"its checksum is right, but it holds what no store can hold",
         ),
@@ -98,58 +103,76 @@ fn say_flaw(path: &[u8], verdict: Verdict) {
 // ---- the image
 
 // Without the lock nothing is changed. It is asked for again, so that there is a reason to say.
-fn refuse_change(path: &[u8]) {
-    let lock = vault::take(path);
+fn refuse_change(rt: HostRuntime, path: &[u8]) {
+    let lock = vault::take(rt, path);
     if lock.busy {
-        say_busy(path, lock.process);
+        say_busy(rt, path, lock.process);
     } else if lock.ours {
         say(
+            rt,
             path,
             b"it is not locked any more, so nothing was changed; start again",
         );
     } else {
-        fail(path, b"it cannot be changed, since it cannot be locked");
+        fail(
+            rt,
+            path,
+            b"it cannot be changed, since it cannot be locked",
+            lock.code,
+        );
     }
 }
 
 // Has bytes on the disk as the image, or says why not. Where the image was read without its lock, it
 // may be another one by now.
-fn store(path: &[u8], locked: bool, bytes: &[u8]) -> bool {
+fn store(rt: HostRuntime, path: &[u8], locked: bool, bytes: &[u8]) -> bool {
     if !locked {
-        refuse_change(path);
+        refuse_change(rt, path);
         return false;
     }
-    match vault::write(path, bytes) {
+    match vault::write(rt, path, bytes) {
         Kept::Whole => true,
         Kept::Lost => {
-            refuse_change(path);
+            refuse_change(rt, path);
             false
         }
-        Kept::Failed => {
-            fail(path, b"it could not be written");
+        Kept::Failed(code) => {
+            fail(rt, path, b"it could not be written", code);
             false
         }
-        Kept::Unsure => {
-            fail(path, b"it was written, but perhaps not to the disk");
+        Kept::Unsure(code) => {
+            fail(
+                rt,
+                path,
+                b"it was written, but perhaps not to the disk",
+                code,
+            );
             false
         }
     }
 }
 
 // Has an image on the disk, where it is not the one that was kept last.
-fn keep_image(path: &[u8], locked: bool, next: &[u8], last: &mut [u8], size: usize) -> Keeping
+fn keep_image(
+    rt: HostRuntime,
+    path: &[u8],
+    locked: bool,
+    next: &[u8],
+    last: &mut [u8],
+    size: usize,
+) -> Keeping
     requires { (length next.now ≤ 99652) × Room last.old size }
     ensures { Keeps next.now last.new result }
 {
-    if check::same(next, &last[..size]) {
+    if octets::same(next, &last[..size]) {
         return Keeping { done: true, size };
     }
-    if !store(path, locked, next) {
+    if !store(rt, path, locked, next) {
         return Keeping { done: false, size };
     }
     Keeping {
         done: true,
-        size: bytes::copy(next, last),
+        size: octets::copy(next, last),
     }
 }
 
@@ -162,14 +185,22 @@ fn image_buffer() -> [u8; 99652]
 
 // Has a store on the disk, where it is not the one that was kept last. The buffer has room for each
 // image, so it is never too small for `save`.
-fn keep(path: &[u8], locked: bool, b: Book, area: &[u8], last: &mut [u8], size: usize) -> Keeping
+fn keep(
+    rt: HostRuntime,
+    path: &[u8],
+    locked: bool,
+    b: Book,
+    area: &[u8],
+    last: &mut [u8],
+    size: usize,
+) -> Keeping
     requires { Storable b area.now × Room last.old size }
     ensures { Keeps (image_of b area.now) last.new result }
 {
     let mut next = image_buffer();
     match image::save(b, area, &mut next) {
         Saved::Small => Keeping { done: false, size },
-        Saved::Wrote(n) => keep_image(path, locked, &next[..n], last, size),
+        Saved::Wrote(n) => keep_image(rt, path, locked, &next[..n], last, size),
     }
 }
 
@@ -177,6 +208,7 @@ fn keep(path: &[u8], locked: bool, b: Book, area: &[u8], last: &mut [u8], size: 
 
 // Prints the lines of an input, a page at a time. What a page tells is on the disk before.
 fn show(
+    rt: HostRuntime,
     path: &[u8],
     locked: bool,
     b: Book,
@@ -196,10 +228,10 @@ fn show(
         let filled = store_lines::fill_page(book, area, cursor, input, &mut page);
         let after = filled.book;
         book = after;
-        let keeping = keep(path, locked, book, area, last, kept);
+        let keeping = keep(rt, path, locked, book, area, last, kept);
         kept = keeping.size;
         let used = filled.used;
-        if !keeping.done || !inputs::write(b"records", &page[..used]) {
+        if !keeping.done || !inputs::write(rt, b"records", &page[..used]) {
             return Turn {
                 going: false,
                 book,
@@ -220,21 +252,29 @@ fn show(
 
 // Prints the lines of standard input or, where arguments name files, of each file in turn. One byte more
 // than an input may have is read, so that a longer one is seen.
-fn show_inputs(path: &[u8], locked: bool, b: Book, area: &mut [u8], last: &mut [u8], size: usize)
+fn show_inputs(
+    rt: HostRuntime,
+    path: &[u8],
+    locked: bool,
+    b: Book,
+    area: &mut [u8],
+    last: &mut [u8],
+    size: usize,
+)
     requires { Held b area.old last.old size }
 {
-    let count = os::arg_count();
-    let mut i = inputs::first_name() + 1;
+    let count = inputs::count(rt);
+    let mut i = inputs::first_name(rt) + 1;
     let mut book = b;
     let mut kept = size;
     let mut input = [0u8; 65537];
     loop {
-        let came = inputs::next(b"records", b"commands", i, count, &mut input);
+        let came = inputs::next(rt, b"records", b"commands", i, count, &mut input);
         let n = came.length;
         if !came.some {
             return;
         }
-        let turn = show(path, locked, book, area, last, kept, &input[..n]);
+        let turn = show(rt, path, locked, book, area, last, kept, &input[..n]);
         if !turn.going {
             return;
         }
@@ -249,73 +289,81 @@ fn show_inputs(path: &[u8], locked: bool, b: Book, area: &mut [u8], last: &mut [
 }
 
 // Begins with an empty store, which is on the disk before the first line.
-fn begin(path: &[u8], locked: bool, area: &mut [u8], last: &mut [u8])
+fn begin(rt: HostRuntime, path: &[u8], locked: bool, area: &mut [u8], last: &mut [u8])
     requires { (length area.old ≡ 98048) × (length last.old ≡ 99653) }
 {
     let book = store_entries::fresh();
-    let keeping = keep(path, locked, book, area, last, 0);
+    let keeping = keep(rt, path, locked, book, area, last, 0);
     if keeping.done {
-        show_inputs(path, locked, book, area, last, keeping.size);
+        show_inputs(rt, path, locked, book, area, last, keeping.size);
     }
 }
 
 // Goes on with the store of the image that stands in `last`.
-fn resume(path: &[u8], locked: bool, area: &mut [u8], last: &mut [u8], size: usize)
+fn resume(rt: HostRuntime, path: &[u8], locked: bool, area: &mut [u8], last: &mut [u8], size: usize)
     requires { Room last.old size }
 {
     let loaded = image::load(&last[..size], area);
     let verdict = loaded.verdict;
     let book = loaded.book;
     if image::is_whole(verdict) {
-        show_inputs(path, locked, book, area, last, size);
+        show_inputs(rt, path, locked, book, area, last, size);
     } else {
-        say_flaw(path, verdict);
+        say_flaw(rt, path, verdict);
     }
 }
 
 // Reads one byte more than the longest image has, so that a longer one is seen.
-fn work(path: &[u8], locked: bool) {
+fn work(rt: HostRuntime, path: &[u8], locked: bool) {
     let mut area = [0u8; 98048];
     let mut last = [0u8; 99653];
-    let got = inputs::read_file(path, &mut last);
+    let got = inputs::read_file(rt, path, &mut last);
     let n = got.length;
     if got.whole {
-        resume(path, locked, &mut area, &mut last, n);
-    } else if os::errno() == libc::ENOENT {
-        begin(path, locked, &mut area, &mut last);
+        resume(rt, path, locked, &mut area, &mut last, n);
+    } else if got.code == inputs::ENOENT {
+        begin(rt, path, locked, &mut area, &mut last);
     } else {
-        inputs::fail(b"records", path);
+        inputs::fail(rt, b"records", path, got.code);
     }
 }
 
-fn run(path: &[u8]) {
-    if vault::is_link(path) {
-        say(path, b"it is a symbolic link; name the file itself");
+fn run(rt: HostRuntime, path: &[u8]) {
+    if vault::is_link(rt, path) {
+        say(rt, path, b"it is a symbolic link; name the file itself");
         return;
     }
-    let lock = vault::take(path);
+    let lock = vault::take(rt, path);
     if lock.busy {
-        say_busy(path, lock.process);
+        say_busy(rt, path, lock.process);
         return;
     }
-    work(path, lock.ours);
-    vault::free(path);
+    work(rt, path, lock.ours);
+    vault::free(rt, path);
 }
 
-fn main() {
+fn ask(rt: HostRuntime) {
+    inputs::say(
+        rt,
+        b"records",
+        b"which image? Usage: ./kiosk records IMAGE [FILE..]",
+    );
+    inputs::tell(rt, b"2");
+}
+
+fn main(rt: HostRuntime) {
     let mut path = io::buffer();
-    let n = os::arg(inputs::first_name(), &mut path);
-    if os::errno() == libc::ENAMETOOLONG {
-        inputs::fail(b"records", b"the image's name");
-        return;
+    match rt.arg(inputs::first_name(rt), &mut path) {
+        Ok(n) => {
+            if n == 0 || octets::same(&path[..n], b"-") {
+                ask(rt);
+            } else {
+                run(rt, &path[..n]);
+            }
+        }
+        Err(FillError::NotPresent) => ask(rt),
+        Err(FillError::TooLong) => {
+            inputs::fail(rt, b"records", b"the image's name", inputs::ENAMETOOLONG);
+        }
     }
-    if n == 0 || check::same(&path[..n], b"-") {
-        inputs::say(
-            b"records",
-            b"which image? Usage: ./kiosk records IMAGE [FILE..]",
-        );
-        inputs::tell(b"2");
-        return;
-    }
-    run(&path[..n]);
 }

@@ -6,6 +6,6 @@
 // every line, and examples/README.md says how to write such a file.
 #![tactic(auto)]
 
-fn main() {
-    printer::show_inputs(b"session");
+fn main(rt: HostRuntime) {
+    printer::show_inputs(rt, b"session");
 }

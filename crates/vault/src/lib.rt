@@ -18,12 +18,10 @@
 ghost use Rattle.std.specs.Prelude.{◌<◌, ◌≤◌, length};
 ghost use Rattle.io.specs.Counts.{IsPrefixLen};
 
+use inputs::ENOENT;
 use std::fs::{File, OpenOptions};
 use std::io::{Error, ErrorKind, Write};
 use std::{fs, process};
-
-// The system's number for a file that is not there.
-pub const ENOENT: i32 = 2;
 
 // Whether a lock is ours, or another's: then the number of its process, or 0 where it is no lock. It
 // is neither where it cannot be made or read: then the system's number says why. And whether it was

@@ -7,7 +7,7 @@
 #![tactic(auto)]
 
 // Prints the lines of one input, one at a time; false where they cannot be written.
-fn show(program: &[u8], input: &[u8]) -> bool {
+fn show(rt: HostRuntime, program: &[u8], input: &[u8]) -> bool {
     let mut line = [0u8; 8192];
     let mut work = bench::buffer();
     let mut area = [0u8; 98048];
@@ -15,7 +15,7 @@ fn show(program: &[u8], input: &[u8]) -> bool {
     loop {
         let turn = bench.turn(input, &mut work, &mut area, &mut line);
         let used = turn.length;
-        if !inputs::write(program, &line[..used]) {
+        if !inputs::write(rt, program, &line[..used]) {
             return false;
         }
         if !turn.more {
@@ -27,17 +27,17 @@ fn show(program: &[u8], input: &[u8]) -> bool {
 
 // Prints the lines of standard input or, where arguments name files, of each file in turn. One byte more
 // than an input may have is read, so that a longer one is seen.
-fn show_inputs(program: &[u8]) {
-    let count = os::arg_count();
+fn show_inputs(rt: HostRuntime, program: &[u8]) {
+    let count = inputs::count(rt);
     let mut input = [0u8; 65537];
-    let mut i = inputs::first_name();
+    let mut i = inputs::first_name(rt);
     loop {
-        let came = inputs::next(program, b"fields", i, count, &mut input);
+        let came = inputs::next(rt, program, b"fields", i, count, &mut input);
         let n = came.length;
         if !came.some {
             return;
         }
-        if !show(program, &input[..n]) {
+        if !show(rt, program, &input[..n]) {
             return;
         }
         i = came.next;
@@ -47,6 +47,6 @@ fn show_inputs(program: &[u8]) {
     }
 }
 
-fn main() {
-    show_inputs(b"workbench");
+fn main(rt: HostRuntime) {
+    show_inputs(rt, b"workbench");
 }
