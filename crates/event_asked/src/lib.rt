@@ -16,6 +16,7 @@ use tapa::Refusal;
 // ---- the checks
 
 // Whether a message is not for the event queue.
+#[tactic(auto, unfolding(events::specs::Events::elsewhere))]
 fn is_elsewhere(head: Head) -> bool
     ensures { result ≡ elsewhere head }
 {
@@ -55,6 +56,7 @@ fn event_at(part: &[u8], at: usize) -> Event
 }
 
 // What a type and its data ask; a wrong length is as wrong as an unknown type.
+#[tactic(auto, unfolding(events::specs::Events::command_of))]
 pub fn read_command(kind: u8, part: &[u8]) -> Command
     ensures { result ≡ command_of kind part.now }
 {
