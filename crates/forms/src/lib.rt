@@ -19,14 +19,14 @@
 #![tactic(auto)]
 
 // A cell that is being written, and the place of its next byte.
-#[derive(Drop)]
+#[derive(Clone, Copy)]
 pub struct Nib {
     pub cell: usize,
     pub at: usize,
 }
 
 // Where a wording stands in its sheet.
-#[derive(Drop)]
+#[derive(Clone, Copy)]
 pub struct Span {
     pub start: usize,
     pub end: usize,

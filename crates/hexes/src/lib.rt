@@ -12,7 +12,7 @@
 // ---- from text to bytes
 
 // How a text ends: whole, or at a digit without its second one, or at a character that is none.
-#[derive(Drop)]
+#[derive(Clone, Copy)]
 pub enum Ends {
     Whole,
     Odd(usize),
@@ -21,7 +21,7 @@ pub enum Ends {
 
 // What one character does. A mode below 16 is a first digit, 16 stands between bytes, and 17 is
 // a comment. The mark is the place of the last first digit.
-#[derive(Drop)]
+#[derive(Clone, Copy)]
 pub enum Step {
     Go { mode: u8, mark: usize },
     Byte(u8),
@@ -29,7 +29,7 @@ pub enum Step {
 }
 
 // How much of the buffer was filled, how many bytes the text has, and how it ends.
-#[derive(Drop)]
+#[derive(Clone, Copy)]
 pub struct Taken {
     pub length: usize,
     pub count: usize,
@@ -37,7 +37,7 @@ pub struct Taken {
 }
 
 // A place of a text as people count: from 1.
-#[derive(Drop)]
+#[derive(Clone, Copy)]
 pub struct Spot {
     pub line: usize,
     pub column: usize,
@@ -47,7 +47,7 @@ pub struct Spot {
 
 // The field that is being written: its header as far as it has come, and how many of its bytes
 // were written.
-#[derive(Drop)]
+#[derive(Clone, Copy)]
 pub struct Cursor {
     pub tag: u8,
     pub high: u8,
@@ -56,7 +56,7 @@ pub struct Cursor {
 }
 
 // How much of the buffer was filled, and the cursor after the bytes.
-#[derive(Drop)]
+#[derive(Clone, Copy)]
 pub struct Written {
     pub used: usize,
     pub next: Cursor,

@@ -32,6 +32,7 @@ fn is_over(cursor: Cursor) -> bool
 }
 
 // One byte more.
+#[tactic(auto, unfolding(hexes::specs::Writing::advanced))]
 fn advance(cursor: Cursor, byte: u8) -> Cursor
     ensures { result ≡ advanced cursor byte }
 {
@@ -70,6 +71,7 @@ fn advance(cursor: Cursor, byte: u8) -> Cursor
 // ---- its text
 
 // Whether a group ends.
+#[tactic(auto, unfolding(hexes::specs::Writing::splits_at))]
 fn splits(tag: u8, at: usize) -> bool
     ensures { result ≡ splits_at tag at }
 {
@@ -101,6 +103,7 @@ fn splits(tag: u8, at: usize) -> bool
 }
 
 // The end of a field's line.
+#[tactic(auto, unfolding(hexes::specs::Writing::name_of))]
 fn put_name(page: &mut [u8], at: usize, tag: u8) -> usize
     ensures { pen page.new result ≡ puts (pen page.old at) (name_of tag) }
 {
@@ -120,6 +123,7 @@ fn put_name(page: &mut [u8], at: usize, tag: u8) -> usize
 }
 
 // A byte, and what stands after it. The cursor is the one after the byte.
+#[tactic(auto, unfolding(hexes::specs::Writing::gap_of))]
 fn put_byte(page: &mut [u8], at: usize, cursor: Cursor, byte: u8) -> usize
     ensures { pen page.new result ≡ puts (pen page.old at) (hex_of byte ++ gap_of cursor) }
 {
@@ -150,6 +154,7 @@ pub fn write(cursor: Cursor, part: &[u8], page: &mut [u8]) -> Written
 }
 
 // Writes the end of the last line at the start of the page, where a field was cut.
+#[tactic(auto, using(text::proofs::Laws::puts_none), unfolding(hexes::specs::Writing::end_of))]
 pub fn write_end(cursor: Cursor, page: &mut [u8]) -> usize
     ensures { pen page.new result ≡ puts (pen page.old 0) (end_of cursor) }
 {
