@@ -1,0 +1,16 @@
+-- The owing that was found ends, or the response is a stray.
+use Rattle.std.proofs.Common.{sym, ◌∙◌}
+use Rattle.tapa.specs.declared.Refusal.TheVariants.{StrayResponse}
+use Rattle.routing.proofs.Steps.{unplaced}
+use Rattle.routing.proofs.Responses.{swallows, strays}
+use Rattle.router_response.proofs.on_late.Goals as goal
+
+pub returns-in-At : goal.returns-in-At
+returns-in-At c =
+    let a = c.args in
+    swallows a.list.now a.len a.head _ _ _ (sym c.find_owed.ensures ∙ c.in-At.is) c.remove-less.ensures
+
+pub returns-in-Nothing : goal.returns-in-Nothing
+returns-in-Nothing c =
+    let a = c.args in
+    unplaced _ _ c.requires _ StrayResponse _ c.refuse.ensures (strays a.list.now a.len a.head (sym c.find_owed.ensures ∙ c.in-Nothing.is))
