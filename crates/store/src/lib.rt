@@ -12,14 +12,14 @@ use book::Book;
 use replies::Answer;
 
 // How long a response's data are, and the book after the command.
-#[derive(Drop)]
+#[derive(Clone, Copy)]
 pub struct Done {
     pub long: usize,
     pub next: Book,
 }
 
 // What a message came to, beside the book as it then is.
-#[derive(Drop)]
+#[derive(Clone, Copy)]
 pub struct Handled {
     pub answer: Answer,
     pub next: Book,
