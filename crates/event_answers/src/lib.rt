@@ -60,6 +60,7 @@ fn taken_or(code: u16, sought: Sought) -> Outcome
 }
 
 // Find, in the order of its failures.
+#[tactic(auto, unfolding(events::specs::Events::judge))]
 fn judge_find(places: &[u32; 100], stretch: Stretch, search: Search) -> Outcome
     requires { Lawful (queue_of places.now stretch) }
     ensures { result ≡ judge (events_in places.now stretch) (Command.Find search) }
@@ -77,6 +78,7 @@ fn judge_find(places: &[u32; 100], stretch: Stretch, search: Search) -> Outcome
 }
 
 // What a command comes to. Nothing is done yet.
+#[tactic(auto, unfolding(events::specs::Events::judge))]
 fn judge(places: &[u32; 100], stretch: Stretch, command: Command) -> Outcome
     requires { Lawful (queue_of places.now stretch) }
     ensures { result ≡ judge (events_in places.now stretch) command }
@@ -102,6 +104,7 @@ fn judge(places: &[u32; 100], stretch: Stretch, command: Command) -> Outcome
 }
 
 // Does what was decided.
+#[tactic(auto, unfolding(events::specs::Events::apply, events::specs::Ring::start_after))]
 fn apply(places: &mut [u32; 100], stretch: Stretch, outcome: Outcome) -> Stretch
     requires { Lawful (queue_of places.old stretch) }
     ensures { HoldsAt (queue_of places.new result) (apply outcome (events_in places.old stretch)) (start_after outcome (events_in places.old stretch) stretch.start) }

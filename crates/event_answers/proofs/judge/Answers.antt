@@ -1,0 +1,11 @@
+-- An event is added where there is room for it.
+use Rattle.std.proofs.Common.{sym, ◌∙◌}
+use Rattle.queue.proofs.Laws.{len}
+use Rattle.events.specs.Events.{judge}
+use Rattle.event_answers.proofs.judge.Goals as goal
+
+pub returns-then-has_room : goal.returns-then-has_room
+unfolding judge
+returns-then-has_room c =
+    let s = c.args.stretch in
+    rw (c.in-Add.is, len c.args.places.now s.start 0 s.count, sym c.has_room.ensures ∙ c.if-has_room.true)
