@@ -14,7 +14,7 @@ ghost use Rattle.fields.specs.Places.{read_at, row_at, step_at, row_placed, step
 ghost use Rattle.fields.specs.Fields.{row_of, step_of};
 
 // What stands at a place: nothing, a field that the end of the input cuts, or a whole field.
-#[derive(Drop)]
+#[derive(Clone, Copy)]
 pub enum Read {
     End,
     Cut(u8),
@@ -22,7 +22,7 @@ pub enum Read {
 }
 
 // Asked at a place among the rows: a row, a broken one, or that the rows are over.
-#[derive(Drop)]
+#[derive(Clone, Copy)]
 pub enum NextRow {
     Row {
         address: u16,
@@ -34,7 +34,7 @@ pub enum NextRow {
 }
 
 // Asked at a place after the rows. A message's bytes go from its start to the next field.
-#[derive(Drop)]
+#[derive(Clone, Copy)]
 pub enum NextStep {
     Message {
         start: usize,
