@@ -29,6 +29,7 @@ fn with_source(joiner: Joiner, thread: usize, source: u16) -> Joiner
 }
 
 // Keeps a command's source for its thread.
+#[tactic(auto, unfolding(joiner::specs::Joining::kept_of))]
 pub fn keep(joiner: Joiner, message: &[u8]) -> Kept
     ensures { result ≡ kept_of joiner message.now }
 {

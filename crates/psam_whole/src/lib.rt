@@ -24,6 +24,7 @@ fn due_for(message: &[u8]) -> usize
 }
 
 // What the joined bytes are.
+#[tactic(auto, unfolding(joiner::specs::Joining::whole_of))]
 pub fn judge(joiner: Joiner, message: &[u8]) -> Whole
     ensures { result ≡ whole_of joiner message.now }
 {
