@@ -10,7 +10,7 @@ ghost use Rattle.std.specs.Prelude.{◌%◌, ◌+◌, ◌<◌, ◌≤◌, ◌≡
 ghost use Rattle.adler.specs.Adler.{adler32};
 
 // The two halves of a checksum.
-#[derive(Drop)]
+#[derive(Clone, Copy)]
 pub struct Sums {
     pub low: u16,
     pub high: u16,

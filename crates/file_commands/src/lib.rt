@@ -18,7 +18,7 @@ ghost use Rattle.files.specs.Asked.{ids_of};
 use book::Book;
 
 // The code, the identifiers of the new files before zeros, and the book with them.
-#[derive(Drop)]
+#[derive(Clone, Copy)]
 pub struct Made {
     pub code: u16,
     pub ids: [u16; 16],
@@ -26,14 +26,14 @@ pub struct Made {
 }
 
 // The code, and the book after files or records went.
-#[derive(Drop)]
+#[derive(Clone, Copy)]
 pub struct Erased {
     pub code: u16,
     pub next: Book,
 }
 
 // The book without some files' rows; `known` says whether each was there when its turn came.
-#[derive(Drop)]
+#[derive(Clone, Copy)]
 struct Left {
     known: bool,
     left: Book,

@@ -26,7 +26,7 @@ use Rattle.layout.proofs.Bytes.{Small, written-bytes}
 use Rattle.layout.proofs.Images.{entries-are, image-is, slots-from, table-limits, table_of, written_is, written-long}
 use Rattle.layout.proofs.OneByte.{same_byte}
 use Rattle.layout.proofs.Verdicts.{Imaged, is-whole, whole_is}
-use Rattle.layout.specs.Judged.{count_in, entries_in, slots_in, sound, table_in, verdict_of}
+use Rattle.layout.specs.Judged.{count_in, entries_in, slots_in, table_in, verdict_of}
 use Rattle.layout.specs.Layout.{body_of, flat, sealed, size_of, sum_bytes}
 use Rattle.layout.specs.declared.Verdict.TheVariants.{Whole}
 use Rattle.lists.proofs.Bytes.{bytes_drop}

@@ -24,14 +24,14 @@ use book::{Book, Entry, Kind};
 use layout::Verdict;
 
 // How many bytes were written, or that the buffer has no room for them.
-#[derive(Drop)]
+#[derive(Clone, Copy)]
 pub enum Saved {
     Wrote(usize),
     Small,
 }
 
 // What the bytes are, and the book in them; a book without files where they are refused.
-#[derive(Drop)]
+#[derive(Clone, Copy)]
 pub struct Loaded {
     pub verdict: Verdict,
     pub book: Book,
@@ -44,7 +44,7 @@ fn put(out: &mut [u8], at: usize, bytes: &[u8])
     requires { at + length bytes.now ≤ length out.old }
     ensures { out.new ≡ over out.old at bytes.now }
 {
-    let _n = bytes::copy(bytes, &mut out[at..]);
+    let _n = octets::copy(bytes, &mut out[at..]);
 }
 
 // A number as its two bytes.

@@ -26,7 +26,7 @@ use book::{Entry, Kind};
 // What some bytes are: the image of a store; no image; one of another version; one that is cut short
 // or has bytes behind its end; one whose checksum is not that of its bytes; one that holds what no
 // store can hold. `Area` is of the memory that was lent to read it into, which has another size.
-#[derive(Drop)]
+#[derive(Clone, Copy)]
 pub enum Verdict {
     Whole,
     Foreign,
