@@ -19,6 +19,7 @@ use tapa::Refusal;
 // ---- the start
 
 // Whether these bytes are a response that can be cut.
+#[tactic(auto, unfolding(cutter::specs::Cutting::start_of))]
 pub fn start_check(message: &[u8]) -> Start
     ensures { result ≡ start_of message.now }
 {
@@ -80,7 +81,7 @@ fn put_command(buffer: &mut [u8], thread: u8, p2: u8, piece: &[u8])
     ensures { buffer.new ≡ onto (command_of thread p2 piece.now) buffer.old }
 {
     put_head(buffer, thread, p2, piece.len() as u8);
-    let n = bytes::copy(piece, &mut buffer[5..]);
+    let n = octets::copy(piece, &mut buffer[5..]);
     buffer[5 + n] = 0x00;
 }
 

@@ -24,6 +24,7 @@ const MORE_DATA: u16 = 0x9601;
 const ALL_SENT: u16 = 0x9000;
 
 // What a piece is after so many joined bytes.
+#[tactic(auto, unfolding(joiner::specs::Joining::taking_of))]
 fn check_piece(joined: usize, piece: &[u8]) -> Taking
     ensures { result ≡ taking_of joined piece.now }
 {
@@ -57,7 +58,7 @@ fn add_piece(joined: usize, piece: &[u8], buffer: &mut [u8]) -> usize
     ensures { (result ≡ joined + (length piece.now - 2)) × (buffer.new ≡ onto (joined_with joined piece.now buffer.old) buffer.old) }
 {
     let n = piece.len() - 2;
-    bytes::copy(&piece[0..n], &mut buffer[joined..]);
+    octets::copy(&piece[0..n], &mut buffer[joined..]);
     joined + n
 }
 
