@@ -9,7 +9,7 @@
 #![tactic(auto)]
 
 // A passed command: exact asker, exact asked address, type, thread, and whether it was given up.
-#[derive(Drop)]
+#[derive(Clone, Copy)]
 pub struct Place {
     pub asker: u16,
     pub asked: u16,

@@ -14,7 +14,7 @@
 
 // What a thread's tree has of an exact address: the number of the wait that asks it, a leaf; that
 // the handler of that wait holds a question of its own on the thread; or no such wait.
-#[derive(Drop)]
+#[derive(Clone, Copy)]
 pub enum Leaf {
     At(usize),
     Holds,
@@ -23,7 +23,7 @@ pub enum Leaf {
 
 // Where a handler stands to a thread's tree: in one of its waits as asker or asked, in none of them,
 // or there is no wait.
-#[derive(Drop)]
+#[derive(Clone, Copy)]
 pub enum Standing {
     Within,
     Outside,

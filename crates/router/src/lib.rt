@@ -20,7 +20,7 @@ use routing::Step;
 use rules::Outcome;
 
 // The list of places with its length, and the table's rows with their count.
-#[derive(Drop)]
+#[derive(Clone, Copy)]
 pub struct Router {
     pub list: [u64; 48],
     pub len: usize,
@@ -28,7 +28,7 @@ pub struct Router {
     pub count: usize,
 }
 
-#[derive(Drop)]
+#[derive(Clone, Copy)]
 pub struct Routed {
     pub outcome: Outcome,
     pub next: Router,

@@ -18,7 +18,7 @@ use rules::Outcome;
 use tapa::Refusal;
 
 // What a function that works in place answers: the outcome, and how many places there are now.
-#[derive(Drop)]
+#[derive(Clone, Copy)]
 pub struct Step {
     pub outcome: Outcome,
     pub len: usize,

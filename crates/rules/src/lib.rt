@@ -16,7 +16,7 @@
 use tapa::Refusal;
 
 // What comes of a call: of a message, of a give up, or of a replaced call.
-#[derive(Drop)]
+#[derive(Clone, Copy)]
 pub enum Outcome {
     // A command goes on, and becomes a wait of its thread's tree.
     Passed {

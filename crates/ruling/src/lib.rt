@@ -16,7 +16,7 @@ use rules::Outcome;
 use tapa::Refusal;
 
 // What the rules a to e say of a command: back with a code, or on.
-#[derive(Drop)]
+#[derive(Clone, Copy)]
 pub enum Ruling {
     Back(u16),
     On,
