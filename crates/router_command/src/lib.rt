@@ -12,7 +12,7 @@ ghost use Rattle.table.specs.Table.{Column};
 ghost use Rattle.places.specs.Places as places;
 ghost use Rattle.rules.specs.Judge.{turned, judge_command, judge_kind};
 ghost use Rattle.rules.specs.Apply.{place};
-ghost use Rattle.ruling.specs.Ruling.{view_in, ruled};
+ghost use Rattle.ruling.specs.Ruling.{held_view, view_in, ruled};
 ghost use Rattle.ruling.specs.declared.Ruling.TheVariants.{On};
 ghost use Rattle.routing.specs.Law.{Lawful};
 ghost use Rattle.routing.specs.Steps.{Wrote, Stepped, OnMessage};
@@ -75,7 +75,7 @@ fn on_command(
     requires len_bound { len < 48 }
     requires count_bound { count ≤ 16 }
     requires in_bounds { 10 ≤ length reply.old }
-    ensures { Wrote (judge_command (view_in cells count list len) head) list len reply result }
+    ensures { Wrote (judge_command (held_view cells.now count list.old len) head) list len reply result }
 {
     match ruling::rule_for(cells, count, list, len, head) {
         Ruling::Back(code) => {
