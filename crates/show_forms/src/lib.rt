@@ -12,6 +12,7 @@ ghost use Rattle.forms.specs.Forms.{is_hole, wording_of, part_text, form_text, f
 // ---- one part
 
 // The characters that are filled.
+#[tactic(auto, unfolding(forms::specs::Forms::is_hole))]
 fn is_hole(byte: u8) -> bool
     ensures { result ≡ is_hole byte }
 {
@@ -32,6 +33,7 @@ fn put_wording(page: &mut [u8], at: usize, sheet: &[u8], n: usize) -> usize
 }
 
 // One byte of a wording, or what fills its hole.
+#[tactic(auto, unfolding(forms::specs::Forms::part_text))]
 fn put_part(page: &mut [u8], at: usize, sheet: &[u8], byte: u8, value: usize) -> usize
     ensures { pen page.new result ≡ puts (pen page.old at) (part_text sheet.now byte value) }
 {
