@@ -15,7 +15,7 @@ use setup::SetUp;
 use table::{Checked, Rows};
 
 // What a start answers, and the router; a refused table leaves a blank one.
-#[derive(Drop)]
+#[derive(Clone, Copy)]
 pub struct Started {
     pub answer: Checked,
     pub router: Router,
