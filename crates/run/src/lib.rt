@@ -16,7 +16,7 @@ use tapa::Refusal;
 // ---- what is handed out
 
 // What a run counts of its outcomes.
-#[derive(Drop)]
+#[derive(Clone, Copy)]
 pub struct Tally {
     pub accepted: usize,
     pub answered: usize,
@@ -24,7 +24,7 @@ pub struct Tally {
 }
 
 // What the last line of a session counts.
-#[derive(Drop)]
+#[derive(Clone, Copy)]
 pub struct Totals {
     pub accepted: usize,
     pub answered: usize,
@@ -35,7 +35,7 @@ pub struct Totals {
 
 // What a run hands out: the outcome of a step, with the number of its line; how the run ends; or
 // that nothing is left.
-#[derive(Drop)]
+#[derive(Clone, Copy)]
 pub enum Item {
     Came { step: usize, outcome: Outcome },
     Over(Totals),
@@ -48,14 +48,14 @@ pub enum Item {
 // ---- a state
 
 // What comes next: the step at the place, or an item that is settled.
-#[derive(Drop)]
+#[derive(Clone, Copy)]
 pub enum Stage {
     Steps,
     Settled(Item),
 }
 
 // The place of the next field and its number, the number of the next step's line, and the counts.
-#[derive(Drop)]
+#[derive(Clone, Copy)]
 pub struct Cursor {
     pub at: usize,
     pub number: usize,
@@ -65,7 +65,7 @@ pub struct Cursor {
 }
 
 // A state of a run.
-#[derive(Drop)]
+#[derive(Clone, Copy)]
 pub struct Session {
     pub cursor: Cursor,
     pub router: Router,
@@ -74,7 +74,7 @@ pub struct Session {
 // ---- one turn
 
 // An item, the reply buffer after its call, whether something was handed out, and the next state.
-#[derive(Drop)]
+#[derive(Clone, Copy)]
 pub struct Turn {
     pub item: Item,
     pub reply: [u8; 10],
@@ -83,7 +83,7 @@ pub struct Turn {
 }
 
 // The same where the arrays of the router are lent: of the state, what they do not hold.
-#[derive(Drop)]
+#[derive(Clone, Copy)]
 pub struct Went {
     pub item: Item,
     pub reply: [u8; 10],
@@ -93,7 +93,7 @@ pub struct Went {
 }
 
 // What comes next, before the router is asked.
-#[derive(Drop)]
+#[derive(Clone, Copy)]
 pub enum Ahead {
     Message {
         start: usize,
@@ -116,7 +116,7 @@ pub enum Ahead {
 
 // The rows of a file, the place and the number of the field after them, and whether that is a
 // broken row.
-#[derive(Drop)]
+#[derive(Clone, Copy)]
 pub struct Heading {
     pub rows: Rows,
     pub at: usize,
