@@ -22,14 +22,14 @@ use lists::Found;
 use sights::Got;
 
 // The code, and the book after a record was deleted.
-#[derive(Drop)]
+#[derive(Clone, Copy)]
 pub struct Deleted {
     pub code: u16,
     pub next: Book,
 }
 
 // The code, the record's pointer, and the book with it.
-#[derive(Drop)]
+#[derive(Clone, Copy)]
 pub struct Added {
     pub code: u16,
     pub pointer: u16,

@@ -17,7 +17,7 @@ use book::Book;
 use lists::Found;
 
 // The code, a record's place in the book, and a pointer: the next or the previous one's, or its own.
-#[derive(Drop)]
+#[derive(Clone, Copy)]
 pub struct Got {
     pub code: u16,
     pub at: usize,
