@@ -1,0 +1,10 @@
+-- What an image holds is a store, and the image is that store's.
+use Rattle.std.proofs.Common.{sym, ◌∙◌, take, rules}
+use Rattle.lists.proofs.Bytes.{bytes_take}
+use Rattle.records.proofs.Images.{resumed}
+use Rattle.records.proofs.resume.Goals as goal
+
+pub show_inputs-requires : goal.show_inputs-requires
+show_inputs-requires c =
+    let d = resumed (take c.args.size c.args.last.now) c.args.area.now _ c.load-loaded.result (bytes_take c.args.size c.args.last.now (λ i. search rules)) c.load-loaded.ensures.0 c.load-loaded.ensures.1 (sym c.is_whole.ensures ∙ c.if-is_whole.true) in
+    record { store = d.0; room = c.requires; image = d.1 }
