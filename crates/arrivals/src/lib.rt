@@ -9,7 +9,7 @@ use message::{Coded, Head, Reading};
 
 // What came: bytes that do not read as a message, too few of them for one or with a length that does
 // not agree, a command, a response, a response without a code, a give up, a replaced call, or no step.
-#[derive(Drop)]
+#[derive(Clone, Copy)]
 pub enum What {
     Unread,
     Torn,
@@ -24,7 +24,7 @@ pub enum What {
 // Its numbers, and 0 where there is no such number. The length is that of the data; of bytes that are
 // too few for a message it is how many they are. Of bytes that do not read otherwise, `code` has the
 // length that was announced. A give up and a replaced call name their address as `to`.
-#[derive(Drop)]
+#[derive(Clone, Copy)]
 pub struct Arrival {
     pub what: What,
     pub to: u16,
