@@ -12,7 +12,7 @@ use place::Place;
 use router::Router;
 
 // What a place of the list is asked.
-#[derive(Drop)]
+#[derive(Clone, Copy)]
 enum Test {
     KeepsBusy,
     InTree,
