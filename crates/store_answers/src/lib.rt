@@ -28,7 +28,7 @@ fn put(body: &mut [u8], at: usize, bytes: &[u8]) -> usize
     requires { at + length bytes.now ≤ length body.old }
     ensures { (result ≡ at + length bytes.now) × (body.new ≡ over body.old at bytes.now) }
 {
-    let n = bytes::copy(bytes, &mut body[at..]);
+    let n = octets::copy(bytes, &mut body[at..]);
     at + n
 }
 
