@@ -4,7 +4,7 @@
 -- is shown once for all (proofs/One.antt, `equations`). Of the relations it is this record: a field a function, over the very name that the
 -- function ensures. docs/PROMISES.md has every public function with its theorem.
 use Rattle.std.specs.Prelude.{ℕ, ◌≡◌, List, Bool}
-use Rattle.std.specs.Borrow.{Bor}
+use Rattle.std.specs.Borrow.{Bor, MutBor}
 use Rattle.message.specs.declared.Head.{Head}
 use Rattle.message.specs.declared.Coded.{Coded}
 use Rattle.message.specs.Message.{Wrote, DataPart}
@@ -14,7 +14,7 @@ use Rattle.place.specs.Place.{Packed}
 use Rattle.places.specs.Places.{Becomes}
 use Rattle.rules.specs.declared.Outcome.{Outcome}
 use Rattle.router.specs.declared.Router.{Router}
-use Rattle.ruling.specs.Ruling.{Lent, lent, ruled}
+use Rattle.ruling.specs.Ruling.{Shown, lent, ruled}
 use Rattle.routing.specs.declared.Step.{Step}
 use Rattle.routing.specs.Steps.{OnMessage, OnResponse, OnGiveUp, OnReplaced}
 use Rattle.router.specs.Router.{Routes, GivesUp, Replaces, routed_to}
@@ -73,19 +73,19 @@ pub record OneResult : Type 0 where
   -- ruling
   pub rule-for : (h : Head) (o : Outcome) → One (λ r. ruled h r ≡ o)
   -- routing: the answer, the list of places, the cells of the rows, the reply buffer
-  pub on-message : (list l l' : Bor (List ℕ)) (k : ℕ) (s s' : Step) (cells c c' : Bor (List ℕ)) (n : ℕ) (message : Lent) (reply b b' : Bor (List ℕ))
+  pub on-message : (list l l' : MutBor (List ℕ)) (k : ℕ) (s s' : Step) (cells c c' : MutBor (List ℕ)) (n : ℕ) (message : Shown) (reply b b' : MutBor (List ℕ))
       → OnMessage (lent cells c) n (lent list l) k message (lent reply b) s
       → OnMessage (lent cells c') n (lent list l') k message (lent reply b') s'
       → (s ≡ s') × (l.now ≡ l'.now) × (c.now ≡ c'.now) × (b.now ≡ b'.now)
-  pub on-response : (list l l' : Bor (List ℕ)) (k : ℕ) (s s' : Step) (cells c c' : Bor (List ℕ)) (n : ℕ) (h : Head) (coded : Coded)
+  pub on-response : (list l l' : MutBor (List ℕ)) (k : ℕ) (s s' : Step) (cells c c' : MutBor (List ℕ)) (n : ℕ) (h : Head) (coded : Coded)
       → OnResponse (lent cells c) n (lent list l) k h coded s
       → OnResponse (lent cells c') n (lent list l') k h coded s'
       → (s ≡ s') × (l.now ≡ l'.now) × (c.now ≡ c'.now)
-  pub on-give-up : (list l l' : Bor (List ℕ)) (k : ℕ) (s s' : Step) (thread address : ℕ) (reply b b' : Bor (List ℕ))
+  pub on-give-up : (list l l' : MutBor (List ℕ)) (k : ℕ) (s s' : Step) (thread address : ℕ) (reply b b' : MutBor (List ℕ))
       → OnGiveUp (lent list l) k thread address (lent reply b) s
       → OnGiveUp (lent list l') k thread address (lent reply b') s'
       → (s ≡ s') × (l.now ≡ l'.now) × (b.now ≡ b'.now)
-  pub on-replaced : (list l l' : Bor (List ℕ)) (k : ℕ) (s s' : Step) (cells c c' : Bor (List ℕ)) (n address : ℕ)
+  pub on-replaced : (list l l' : MutBor (List ℕ)) (k : ℕ) (s s' : Step) (cells c c' : MutBor (List ℕ)) (n address : ℕ)
       → OnReplaced (lent cells c) n (lent list l) k address s
       → OnReplaced (lent cells c') n (lent list l') k address s'
       → (s ≡ s') × (l.now ≡ l'.now) × (c.now ≡ c'.now)
