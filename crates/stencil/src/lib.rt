@@ -118,7 +118,7 @@ fn write_frame(sheet: &mut [u8]) {
     show_sheet::engrave(
         sheet,
         RAW,
-        b"$|<svg xmlns=\"http://www.w3.org/2000/svg\" view_box=\"0 0 1120 #\" width=\"1120\" height=\"#\" font-family=\"sans-serif\">\
+        b"$|<svg xmlns=\"http://www.w3.org/2000/svg\" viewBox=\"0 0 1120 #\" width=\"1120\" height=\"#\" font-family=\"sans-serif\">\
         |<title>A session of the kiosk</title><style>|#mm}}</style>",
     );
     show_sheet::engrave(
