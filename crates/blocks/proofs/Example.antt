@@ -6,12 +6,12 @@ use Rattle.blocks.specs.Words.{indented}
 use Rattle.blocks.specs.Blocks.{heads}
 
 -- each line of the words is set in, and the last is closed
-pub set-in : indented (ascii "It asks.\n_the answer waits.") ≡ ascii "    It asks.\n    The answer waits.\n"
+pub set-in : indented (ascii "It asks.\nThe answer waits.") ≡ ascii "    It asks.\n    The answer waits.\n"
 unfolding indented
 set-in = refl
 
 -- an empty line too, and what is closed is not closed again
-pub set-in-closed : indented (ascii "\n_it asks.\n") ≡ ascii "    \n    It asks.\n"
+pub set-in-closed : indented (ascii "\nIt asks.\n") ≡ ascii "    \n    It asks.\n"
 unfolding indented
 set-in-closed = refl
 
