@@ -54,7 +54,7 @@ const RESET: usize = 19;
 pub const BROKEN: usize = 20;
 
 // A word, with what stands after it.
-#[derive(Drop)]
+#[derive(Clone, Copy)]
 pub enum Came {
     Plain(usize),
     Number(usize, usize),
