@@ -47,6 +47,7 @@ pub fn data_part(message: &[u8]) -> &[u8]
 }
 
 // The last two bytes of a response's data.
+#[tactic(auto, unfolding(message::specs::Message::code_of))]
 pub fn response_code(part: &[u8]) -> Coded
     ensures { result ≡ code_of part.now }
 {

@@ -29,6 +29,7 @@ pub struct SetUp {
 // ---- acceptance
 
 // The shape of an address that may stand in a row.
+#[tactic(auto, unfolding(table::specs::Table::shaped, tapa::specs::Address::category_of, tapa::specs::Address::sub_address_of))]
 fn is_shaped(address: u32) -> bool
     ensures { result ≡ shaped address }
 {

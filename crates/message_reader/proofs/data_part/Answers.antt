@@ -1,13 +1,13 @@
 -- `message_reader::data_part` meets its contract: a message has eight bytes before its data. Assumes nothing.
-use Rattle.std.proofs.Common.{sym, ◌∙◌}
+use Rattle.std.proofs.Common.{sym, ◌∙◌, arith}
 use Rattle.message.proofs.Laws.{long, all_left, part-of-message, part-of-none}
 use Rattle.message_reader.proofs.data_part.Goals as goal
 
 pub slice_bounds-result-count : goal.slice_bounds-result-count
-slice_bounds-result-count c = long c.args.message.now (sym c.in-Message.ensures)
+slice_bounds-result-count c = omega (arith, long c.args.message.now (sym c.in-Message.ensures))
 
 pub slice_bounds-result-start : goal.slice_bounds-result-start
-slice_bounds-result-start c = long c.args.message.now (sym c.in-Message.ensures)
+slice_bounds-result-start c = omega (arith, long c.args.message.now (sym c.in-Message.ensures))
 
 pub returns-in-Message : goal.returns-in-Message
 returns-in-Message c =
