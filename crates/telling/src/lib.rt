@@ -164,7 +164,7 @@ fn tell_arrival(words: &mut [u8], at: usize, sheet: &[u8], came: Arrival) -> usi
 // ---- how a thread stands
 
 // The place after some text, and whether the text has an entry yet.
-#[derive(Drop)]
+#[derive(Clone, Copy)]
 struct Listed {
     at: usize,
     any: bool,
