@@ -15,14 +15,14 @@
 use book::Book;
 
 // The place of the next field in an input, and its number, all fields counted from 1.
-#[derive(Drop)]
+#[derive(Clone, Copy)]
 pub struct Cursor {
     pub at: usize,
     pub number: usize,
 }
 
 // What stands at a place: nothing, a field that is no message, or a message.
-#[derive(Drop)]
+#[derive(Clone, Copy)]
 pub enum Next {
     End,
     Broken,
@@ -30,7 +30,7 @@ pub enum Next {
 }
 
 // The place after a line, and the store after its message.
-#[derive(Drop)]
+#[derive(Clone, Copy)]
 pub struct Heard {
     pub used: usize,
     pub book: Book,
@@ -38,7 +38,7 @@ pub struct Heard {
 
 // How many bytes of a page are used and how many lines they are, whether there may be more, and the
 // store and the place after them.
-#[derive(Drop)]
+#[derive(Clone, Copy)]
 pub struct Page {
     pub used: usize,
     pub lines: usize,
