@@ -86,6 +86,7 @@ fn put_command(buffer: &mut [u8], thread: u8, p2: u8, piece: &[u8])
 }
 
 // Writes the command at a place of the data into a buffer.
+#[tactic(auto, unfolding(cutter::specs::Cutting::cut_at))]
 pub fn cut_next(part: &[u8], thread: u8, at: usize, buffer: &mut [u8]) -> Handed
     ensures { HandsOut part.now thread at buffer.old buffer.new result }
 {
