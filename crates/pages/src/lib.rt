@@ -15,7 +15,7 @@ use run::Session;
 
 // How many bytes of a page are used, whether it was full before the end of the lines was seen, and the
 // next state.
-#[derive(Drop)]
+#[derive(Clone, Copy)]
 pub struct Page {
     pub used: usize,
     pub more: bool,
