@@ -16,7 +16,7 @@ ghost use Rattle.picture.specs.Picture.{Drawn, Added, Part};
 use run::{Session, Turn};
 
 // How many bytes of a page are used, whether it was full before the end was seen, and the next state.
-#[derive(Drop)]
+#[derive(Clone, Copy)]
 pub struct Page {
     pub used: usize,
     pub more: bool,
