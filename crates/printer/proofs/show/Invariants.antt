@@ -4,8 +4,8 @@ use Rattle.run.specs.State.{Ready}
 use Rattle.transcript.specs.Prescribed.{lines_left}
 use Rattle.printer.proofs.show.Given as goal
 
-abbrev pub invariant-loop-session : goal.invariant-loop-session
-invariant-loop-session l = Ready l.session
+abbrev pub invariant-loop-rt : goal.invariant-loop-rt
+invariant-loop-rt l = Ready l.session
 
-abbrev pub decreases-loop-session : goal.decreases-loop-session
-decreases-loop-session l = length (lines_left l.input l.session)
+abbrev pub decreases-loop-rt : goal.decreases-loop-rt
+decreases-loop-rt l = length (lines_left l.input l.session)
