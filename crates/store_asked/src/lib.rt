@@ -19,6 +19,7 @@ const LEAST: usize = 398;
 // ---- the checks
 
 // Whether a message is not for the data store.
+#[tactic(auto, unfolding(store::specs::Store::elsewhere))]
 fn is_elsewhere(head: Head) -> bool
     ensures { result ≡ elsewhere head }
 {
