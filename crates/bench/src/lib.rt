@@ -34,7 +34,7 @@ const LARGEST: usize = 2048;
 // What the parts but the data store keep from field to field. There is a router before a field
 // starts one, so that its law always holds; `started` says whether a field did. What is cut is told
 // by its two places in the input, and `cut` is the cutter's place in it.
-#[derive(Drop)]
+#[derive(Clone, Copy)]
 struct Parts {
     queue: Queue,
     joiner: Joiner,
@@ -50,7 +50,7 @@ struct Parts {
 
 // The parts, the data store's book, and the place and number of the next field. The book's law
 // speaks of the lent area too: so it stands apart, and only functions that have the area see it.
-#[derive(Drop)]
+#[derive(Clone, Copy)]
 pub struct Bench {
     parts: Parts,
     book: Book,
@@ -59,35 +59,35 @@ pub struct Bench {
 }
 
 // What a part answered, and the parts after it.
-#[derive(Drop)]
+#[derive(Clone, Copy)]
 struct Asked {
     came: Came,
     next: Parts,
 }
 
 // The place after a field's text, and the parts after it.
-#[derive(Drop)]
+#[derive(Clone, Copy)]
 struct Told {
     place: usize,
     next: Parts,
 }
 
 // The same of a message to the data store, and the book after it.
-#[derive(Drop)]
+#[derive(Clone, Copy)]
 struct Stored {
     place: usize,
     next: Book,
 }
 
 // The same, and the bench after it.
-#[derive(Drop)]
+#[derive(Clone, Copy)]
 struct Said {
     place: usize,
     next: Bench,
 }
 
 // One field: the length of its line, whether more fields may follow, and the bench after it.
-#[derive(Drop)]
+#[derive(Clone, Copy)]
 pub struct Turn {
     pub length: usize,
     pub more: bool,
@@ -95,7 +95,7 @@ pub struct Turn {
 }
 
 // What is to be done with a field: ask, with or without a buffer, or say this word alone.
-#[derive(Drop)]
+#[derive(Clone, Copy)]
 enum Field {
     Plain,
     Lent,
