@@ -19,7 +19,6 @@ use Rattle.message.specs.declared.Writing.TheVariants as writing
 use Rattle.message.specs.Message.{read_of, part_of, message_of, writing_of, after_writing}
 use Rattle.table.specs.declared.Checked.{Checked as Judged}
 use Rattle.table.specs.Table.{kept_by, rows_read}
-use Rattle.rules.specs.View.{View}
 use Rattle.rules.specs.declared.Outcome.{Outcome}
 use Rattle.rules.specs.declared.Outcome.TheVariants as outcome
 use Rattle.rules.specs.Apply.{applied, written}
@@ -28,7 +27,6 @@ use Rattle.router.specs.declared.Routed.{Routed}
 use Rattle.router.specs.Router as router
 use Rattle.router.proofs.States.{determined}
 use Rattle.start.specs.Start.{fresh_over}
-use Rattle.replies.specs.declared.Answer.{Answer}
 use Rattle.replies.specs.declared.Answer.TheVariants as answer
 use Rattle.replies.specs.declared.Checked.{Checked}
 use Rattle.replies.specs.declared.Checked.TheVariants.{Passed, Failed}
@@ -48,12 +46,11 @@ use Rattle.cutter.specs.declared.First.{First}
 use Rattle.cutter.specs.declared.Handed.{Handed}
 use Rattle.cutter.specs.declared.Step.{Step}
 use Rattle.cutter.specs.Cutting.{start_of, thread_of, to_cut, command_at, cut_at, place_after, buffer_after, cutter_at}
-use Rattle.joiner.specs.declared.Answer.{Answer as Joining}
 use Rattle.joiner.specs.declared.Answer.TheVariants as joining
 use Rattle.joiner.specs.declared.Joined.{Joined}
 use Rattle.joiner.specs.declared.Joiner.{Joiner}
 use Rattle.joiner.specs.declared.Keeping.{Keeping}
-use Rattle.joiner.specs.declared.Keeping.TheVariants.{Done, Refused as NotKept}
+use Rattle.joiner.specs.declared.Keeping.TheVariants.{Refused as NotKept}
 use Rattle.joiner.specs.declared.Taking.{Taking}
 use Rattle.joiner.specs.declared.Taking.TheVariants.{NotLast, Last, Refused as NotTaken}
 use Rattle.joiner.specs.declared.Whole.{Whole}
