@@ -14,7 +14,7 @@
 use tapa::Refusal;
 
 // What the question "is it free?" is answered with.
-#[derive(Drop)]
+#[derive(Clone, Copy)]
 pub enum Freedom {
     Yes,
     No,
