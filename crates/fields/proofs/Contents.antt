@@ -77,3 +77,9 @@ module _ (s : List ℕ) (a n : ℕ) (h : a + n ≤ length s) where
     pub no_step : (t ≡ 2 → ⊥) → (t ≡ 3 → ⊥) → (t ≡ 4 → ⊥) → Broken ≡ step_placed a (a + n) (step_of t (take n (drop a s)))
     unfolding step_of
     no_step p q u = rw (ne_eqb t 2 p, ne_eqb t 3 q, ne_eqb t 4 u)
+
+-- ---- for the code: its returns close by these
+
+pub ruleset row_kinds = (torn-long, torn-status, row-whole)
+
+pub ruleset step_kinds = (is-message, is-give-up, no-give-up, is-replaced, no-replaced, no_step)

@@ -77,6 +77,7 @@ pub fn read_at(s: &[u8], at: usize) -> Read
 }
 
 // A whole field with a row's tag.
+#[tactic(auto, using(crate::proofs::Contents::row_kinds))]
 fn row_in(s: &[u8], start: usize, long: usize) -> NextRow
     requires { start + long ≤ length s.now }
     ensures { result ≡ row_placed (start + long) (row_of (take long (drop start s.now))) }
@@ -119,6 +120,7 @@ pub fn row_at(s: &[u8], at: usize) -> NextRow
 }
 
 // A whole field among the steps.
+#[tactic(auto, using(crate::proofs::Contents::step_kinds))]
 fn step_in(s: &[u8], tag: u8, start: usize, long: usize) -> NextStep
     requires { start + long ≤ length s.now }
     ensures { result ≡ step_placed start (start + long) (step_of tag (take long (drop start s.now))) }

@@ -37,6 +37,9 @@ left-none s start i h =
     let e : start + 128 - i ≡ 0 = omega arith in
     rw e (omega arith)
 
+-- by these the loop of `wording_end` closes
+pub ruleset ends_at = (left-all, left-more, left_over, left-none)
+
 -- ---- a wording is the start of its cell
 
 worded-short : (l : List ℕ) → length (worded l) ≤ length l

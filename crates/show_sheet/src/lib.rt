@@ -49,6 +49,7 @@ pub fn engrave(sheet: &mut [u8], first: usize, wordings: &[u8])
 // ---- found
 
 // Where the wording that begins at a place ends.
+#[tactic(auto, using(forms::proofs::Sheets::ends_at))]
 fn wording_end(sheet: &[u8], start: usize) -> usize
     requires { start + 128 ≤ length sheet.now }
     ensures { result ≡ end_of sheet.now start }

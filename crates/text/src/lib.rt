@@ -79,6 +79,7 @@ fn last_digit(n: usize) -> u8
 }
 
 // Writes a number in decimal, with no leading zero.
+#[tactic(auto, using(crate::proofs::Digits::last_digits))]
 pub fn put_decimal(line: &mut [u8], at: usize, n: usize) -> usize
     ensures { pen line.new result ≡ puts (pen line.old at) (decimal_of n) }
 {
