@@ -46,7 +46,7 @@ const PATH_MAX: usize = 4096;
 
 // How many bytes of the buffer are the input's, and whether it was read to its end; where it was not, the
 // system's number says why. A full buffer counts as an end: who must see a longer input lends one byte more.
-#[derive(Drop)]
+#[derive(Clone, Copy)]
 pub struct Got {
     pub length: usize,
     pub whole: bool,
@@ -336,7 +336,7 @@ fn read_named(rt: HostRuntime, program: &[u8], what: &[u8], name: &[u8], buf: &m
 
 // The next input that can be read, from an argument on: how many bytes of the buffer are its, and the
 // number of the argument after it. Where none is left, `some` is false.
-#[derive(Drop)]
+#[derive(Clone, Copy)]
 pub struct Came {
     pub length: usize,
     pub some: bool,

@@ -8,7 +8,7 @@
 #![tactic(auto)]
 
 // Where a walk over a list ended: at the element with this number, or nowhere.
-#[derive(Drop)]
+#[derive(Clone, Copy)]
 pub enum Found {
     At(usize),
     Nothing,

@@ -26,7 +26,7 @@ use std::{fs, process};
 // Whether a lock is ours, or another's: then the number of its process, or 0 where it is no lock. It
 // is neither where it cannot be made or read: then the system's number says why. And whether it was
 // read, and has no other's line.
-#[derive(Drop)]
+#[derive(Clone, Copy)]
 pub struct Lock {
     pub ours: bool,
     pub busy: bool,
@@ -38,7 +38,7 @@ pub struct Lock {
 // The bytes are on the disk; the lock is not ours, and nothing was written; the write failed, and
 // the file is as it was; or it has its new bytes, and whether the disk has them is not known. The
 // last two with the system's number of the reason.
-#[derive(Drop)]
+#[derive(Clone, Copy)]
 pub enum Kept {
     Whole,
     Lost,
