@@ -6,7 +6,7 @@
 ghost use Rattle.std.specs.Prelude.{◌≤◌};
 ghost use Rattle.table.specs.Table.{Column};
 
-use std::io;
+use std::io::Print;
 use table::{Checked, Row};
 
 fn row(address: u16) -> Row {
@@ -35,11 +35,12 @@ fn plenty() -> [Row; 17] {
     changed(changed(changed(rows, 1, 0x0000), 2, 0x0001), 3, 0x0101)
 }
 
-fn say(rt: &impl Print, number: u8) -> io::Result<()> {
-    println!(rt; "{number:02}")
+fn say(rt: HostRuntime, number: u8) {
+    let line = [48 + number / 10, 48 + number % 10, b'\n'];
+    let _ = rt.stdout().write_all(&line);
 }
 
-fn say_set_up(rt: &impl Print, rows: [Row; 17], count: usize) -> io::Result<()> {
+fn say_set_up(rt: HostRuntime, rows: [Row; 17], count: usize) {
     let done = setup::set_up_own(rows, count);
     let answer = done.answer();
     match answer {
@@ -48,25 +49,25 @@ fn say_set_up(rt: &impl Print, rows: [Row; 17], count: usize) -> io::Result<()> 
     }
 }
 
-fn say_rows_and_shapes(rt: &impl Print, rows: [Row; 17]) -> io::Result<()> {
-    say_set_up(rt, rows, 0)?;
-    say_set_up(rt, rows, 1)?;
-    say_set_up(rt, rows, 16)?;
-    say_set_up(rt, rows, 17)?;
-    say_set_up(rt, changed(rows, 15, 0x0180), 16)?;
-    say_set_up(rt, changed(rows, 15, 0x027F), 16)?;
-    say_set_up(rt, changed(rows, 15, 0x0800), 16)?;
-    say_set_up(rt, changed(rows, 15, 0x0701), 16)?;
-    say_set_up(rt, changed(rows, 15, 0x0700), 16)
+fn say_rows_and_shapes(rt: HostRuntime, rows: [Row; 17]) {
+    say_set_up(rt, rows, 0);
+    say_set_up(rt, rows, 1);
+    say_set_up(rt, rows, 16);
+    say_set_up(rt, rows, 17);
+    say_set_up(rt, changed(rows, 15, 0x0180), 16);
+    say_set_up(rt, changed(rows, 15, 0x027F), 16);
+    say_set_up(rt, changed(rows, 15, 0x0800), 16);
+    say_set_up(rt, changed(rows, 15, 0x0701), 16);
+    say_set_up(rt, changed(rows, 15, 0x0700), 16);
 }
 
-fn say_repeats_and_multi(rt: &impl Print, rows: [Row; 17]) -> io::Result<()> {
-    say_set_up(rt, changed(rows, 15, 0x0204), 16)?;
-    say_set_up(rt, changed(changed(rows, 0, 0x0204), 15, 0x0701), 16)?;
-    say_set_up(rt, rows, 4)?;
+fn say_repeats_and_multi(rt: HostRuntime, rows: [Row; 17]) {
+    say_set_up(rt, changed(rows, 15, 0x0204), 16);
+    say_set_up(rt, changed(changed(rows, 0, 0x0204), 15, 0x0701), 16);
+    say_set_up(rt, rows, 4);
     let five = changed(rows, 4, 0x0002);
-    say_set_up(rt, five, 5)?;
-    say_set_up(rt, changed(five, 15, 0x0205), 16)
+    say_set_up(rt, five, 5);
+    say_set_up(rt, changed(five, 15, 0x0205), 16);
 }
 
 fn bit(b: bool) -> u8
@@ -75,23 +76,23 @@ fn bit(b: bool) -> u8
     if b { 1 } else { 0 }
 }
 
-fn say_look_ups(rt: &impl Print, column: [u32; 16], count: usize) -> io::Result<()>
+fn say_look_ups(rt: HostRuntime, column: [u32; 16], count: usize)
     requires { Column column count }
 {
     let mut cells = column;
-    say(rt, bit(router_rows::is_listed(&cells, count, 0x0204)))?;
-    say(rt, bit(router_rows::is_listed(&cells, count, 0x0284)))?;
-    say(rt, bit(router_rows::is_open(&cells, count, 0x0204)))?;
+    say(rt, bit(router_rows::is_listed(&cells, count, 0x0204)));
+    say(rt, bit(router_rows::is_listed(&cells, count, 0x0284)));
+    say(rt, bit(router_rows::is_open(&cells, count, 0x0204)));
     router_rows::set_open(&mut cells, count, 0x0204, false);
-    say(rt, bit(router_rows::is_open(&cells, count, 0x0204)))?;
-    say(rt, bit(router_rows::is_open(&cells, count, 0x0205)))?;
-    say(rt, bit(router_rows::is_listed(&cells, count, 0x0204)))
+    say(rt, bit(router_rows::is_open(&cells, count, 0x0204)));
+    say(rt, bit(router_rows::is_open(&cells, count, 0x0205)));
+    say(rt, bit(router_rows::is_listed(&cells, count, 0x0204)));
 }
 
-fn main(rt: HostRuntime) -> io::Result<()> {
+fn main(rt: HostRuntime) {
     let rows = plenty();
-    say_rows_and_shapes(&rt, rows)?;
-    say_repeats_and_multi(&rt, rows)?;
+    say_rows_and_shapes(rt, rows);
+    say_repeats_and_multi(rt, rows);
     let held = setup::set_up_own(rows, 16).rows();
-    say_look_ups(&rt, held.cells(), held.count())
+    say_look_ups(rt, held.cells(), held.count());
 }
