@@ -17,10 +17,10 @@ pub const MARK: u64 = 0x1000000000000;
 pub fn pack_of(place: Place) -> u64
     ensures { Packed place result }
 {
-    let fields = place.asker as u64 * 0x100000000
-        + place.asked as u64 * 0x10000
-        + place.kind as u64 * 0x100
-        + place.thread as u64;
+    let fields = u64::from(place.asker) * 0x100000000
+        + u64::from(place.asked) * 0x10000
+        + u64::from(place.kind) * 0x100
+        + u64::from(place.thread);
     if place.owed { MARK + fields } else { fields }
 }
 
@@ -43,21 +43,14 @@ pub fn open_on(x: u64, thread: u8) -> bool
     ensures { result ≡ open_on thread (unpack x) }
 {
     let place = place_of(x);
-    if place.owed {
-        return false;
-    }
-    place.thread == thread
+    !place.owed && place.thread == thread
 }
 
 // Whether it is a wait of this thread that asks exactly this address.
 pub fn asks_exactly(x: u64, asked: u16, thread: u8) -> bool
     ensures { result ≡ asks_exactly asked thread (unpack x) }
 {
-    if !open_on(x, thread) {
-        return false;
-    }
-    let place = place_of(x);
-    place.asked == asked
+    open_on(x, thread) && place_of(x).asked == asked
 }
 
 // Whether it is an owing on this thread of exactly this asked address.
@@ -65,43 +58,27 @@ pub fn owes_exactly(x: u64, asked: u16, thread: u8) -> bool
     ensures { result ≡ owes_exactly asked thread (unpack x) }
 {
     let place = place_of(x);
-    if !place.owed {
-        return false;
-    }
-    if place.thread != thread {
-        return false;
-    }
-    place.asked == asked
+    place.owed && place.thread == thread && place.asked == asked
 }
 
 fn has(place: Place, handler: u16) -> bool
     ensures { result ≡ stands handler place }
 {
-    if tapa::handler(place.asker) == handler {
-        return true;
-    }
-    tapa::handler(place.asked) == handler
+    tapa::handler(place.asker) == handler || tapa::handler(place.asked) == handler
 }
 
 // Whether it is a wait of this thread in which the handler stands as asker or asked.
 pub fn has_on(x: u64, thread: u8, handler: u16) -> bool
     ensures { result ≡ stands_on thread handler (unpack x) }
 {
-    if !open_on(x, thread) {
-        return false;
-    }
-    has(place_of(x), handler)
+    open_on(x, thread) && has(place_of(x), handler)
 }
 
 // Whether it is a wait of this thread that the handler asked.
 pub fn holds_on(x: u64, thread: u8, handler: u16) -> bool
     ensures { result ≡ holds_on thread handler (unpack x) }
 {
-    if !open_on(x, thread) {
-        return false;
-    }
-    let place = place_of(x);
-    tapa::handler(place.asker) == handler
+    open_on(x, thread) && tapa::handler(place_of(x).asker) == handler
 }
 
 // Whether it is a wait of any thread in which the handler stands as asker or asked.
@@ -109,10 +86,7 @@ pub fn has_open(x: u64, handler: u16) -> bool
     ensures { result ≡ stands_in handler (unpack x) }
 {
     let place = place_of(x);
-    if place.owed {
-        return false;
-    }
-    has(place, handler)
+    !place.owed && has(place, handler)
 }
 
 // Whether the handler is asked in it: a single one on any thread, a multi one on this thread.
@@ -120,13 +94,8 @@ pub fn on_slot(x: u64, handler: u16, thread: u8) -> bool
     ensures { result ≡ on_slot handler thread (unpack x) }
 {
     let place = place_of(x);
-    if tapa::handler(place.asked) != handler {
-        return false;
-    }
-    if tapa::is_multi(handler) {
-        return place.thread == thread;
-    }
-    true
+    tapa::handler(place.asked) == handler
+        && (!tapa::is_multi(handler) || place.thread == thread)
 }
 
 // Whether it is an owing of the handler.
@@ -134,8 +103,5 @@ pub fn owed_by(x: u64, handler: u16) -> bool
     ensures { result ≡ owed_by handler (unpack x) }
 {
     let place = place_of(x);
-    if tapa::handler(place.asked) == handler {
-        return place.owed;
-    }
-    false
+    place.owed && tapa::handler(place.asked) == handler
 }
