@@ -1,25 +1,14 @@
-// Text: bytes, upper-case hexadecimal and decimals, written into a lent buffer.
+// Text: bytes, upper-case hexadecimal and decimals, written on a page, which is a lent buffer with
+// the place of the next byte.
 //
-// Every function takes the buffer and the place of the next byte, and answers the place after
-// what it wrote. Where the buffer is full, nothing more is written and the place stays; so no
-// function asks anything of its caller. The contracts fix every byte of the buffer.
+// Where the buffer is full, nothing more is written and the place stays; so no method asks anything
+// of its caller. `Writes` fixes every byte of the buffer, and says that the page still holds it.
 //
-// Calls follow one another as their texts do: proofs/Laws.antt, `more`.
+// Calls follow one another as their texts do: proofs/Laws.antt, `more` and `and_then`.
 #![tactic(auto)]
 
-ghost use Rattle.std.specs.Prelude.{◌≡◌, [], ◌∷◌, ◌+◌, ◌<◌, ◌%◌};
-ghost use Rattle.text.specs.Text.{pen, puts, digit_of, hex_of, hexes_of, word_hex_of, decimal_of};
-
-// Writes one byte.
-pub fn put(line: &mut [u8], at: usize, byte: u8) -> usize
-    ensures { pen line.new result ≡ puts (pen line.old at) (byte ∷ []) }
-{
-    if at < line.len() {
-        line[at] = byte;
-        return at + 1;
-    }
-    at
-}
+ghost use Rattle.std.specs.Prelude.{◌≡◌, [], ◌∷◌, ◌<◌};
+ghost use Rattle.text.specs.Text.{pen, puts, pen_of, Writes, digit_of, hex_of, hexes_of, word_hex_of, decimal_of};
 
 // The upper-case digit of a number below 16.
 fn hex_digit(value: u8) -> u8
@@ -29,63 +18,136 @@ fn hex_digit(value: u8) -> u8
     if value < 10 { 48 + value } else { 55 + value }
 }
 
+// A lent buffer, and the place where the next byte goes.
+#[derive(Drop)]
+pub struct Page<'a> {
+    bytes: &'a mut [u8],
+    at: usize,
+}
+
+impl<'a> Page<'a> {
+    // A buffer that is written from a place on.
+    pub fn new(bytes: &'a mut [u8], at: usize) -> Page<'a>
+        ensures lent { result.bytes.ghost_name ≡ bytes.entry.ghost_name }
+        ensures text { pen_of result ≡ pen bytes.old at }
+    {
+        Page { bytes, at }
+    }
+
+    // The place after what was written.
+    pub fn place(&self) -> usize
+        ensures { result ≡ self.now.at }
+    {
+        self.at
+    }
+
+    // Writes one byte.
+    pub fn put(&mut self, byte: u8)
+        ensures { Writes self.old self.new (byte ∷ []) }
+    {
+        if self.at < self.bytes.len() {
+            self.bytes[self.at] = byte;
+            self.at += 1;
+        }
+    }
+
+    // Writes a byte as two digits, the high one first.
+    pub fn put_hex(&mut self, byte: u8)
+        ensures { Writes self.old self.new (hex_of byte) }
+    {
+        self.put(hex_digit(byte / 16));
+        self.put(hex_digit(byte % 16));
+    }
+
+    // Writes a two-byte number, an address or a code, as four digits.
+    pub fn put_word_hex(&mut self, word: u16)
+        ensures { Writes self.old self.new (word_hex_of word) }
+    {
+        self.put_all_hex(&word.to_be_bytes());
+    }
+
+    // Writes the bytes of a slice as they are.
+    pub fn put_all(&mut self, bytes: &[u8])
+        ensures { Writes self.old self.new bytes.now }
+    {
+        for byte in bytes {
+            self.put(*byte);
+        }
+    }
+
+    // Writes the bytes of a slice as two digits each.
+    pub fn put_all_hex(&mut self, bytes: &[u8])
+        ensures { Writes self.old self.new (hexes_of bytes.now) }
+    {
+        for byte in bytes {
+            self.put_hex(*byte);
+        }
+    }
+
+    // Writes a number in decimal, with no leading zero.
+    pub fn put_decimal(&mut self, n: usize)
+        ensures { Writes self.old self.new (decimal_of n) }
+    {
+        if n < 10 {
+            return self.put(b'0' + n as u8);
+        }
+        self.put_decimal(n / 10);
+        self.put(b'0' + (n % 10) as u8);
+    }
+}
+
+// ---- the same on a buffer and a place, with the place after it as the answer
+
+// Writes one byte.
+pub fn put(line: &mut [u8], at: usize, byte: u8) -> usize
+    ensures { pen line.new result ≡ puts (pen line.old at) (byte ∷ []) }
+{
+    let mut page = Page::new(line, at);
+    page.put(byte);
+    page.place()
+}
+
 // Writes a byte as two digits, the high one first.
 pub fn put_hex(line: &mut [u8], at: usize, byte: u8) -> usize
     ensures { pen line.new result ≡ puts (pen line.old at) (hex_of byte) }
 {
-    let next = put(line, at, hex_digit(byte / 16));
-    put(line, next, hex_digit(byte % 16))
+    let mut page = Page::new(line, at);
+    page.put_hex(byte);
+    page.place()
 }
 
 // Writes a two-byte number, an address or a code, as four digits.
 pub fn put_word_hex(line: &mut [u8], at: usize, word: u16) -> usize
     ensures { pen line.new result ≡ puts (pen line.old at) (word_hex_of word) }
 {
-    let next = put_hex(line, at, (word / 256) as u8);
-    put_hex(line, next, (word % 256) as u8)
+    let mut page = Page::new(line, at);
+    page.put_word_hex(word);
+    page.place()
 }
 
 // Writes the bytes of a slice as they are.
 pub fn put_all(line: &mut [u8], at: usize, bytes: &[u8]) -> usize
     ensures { pen line.new result ≡ puts (pen line.old at) bytes.now }
 {
-    let mut next = at;
-    let mut i = 0;
-    while i < bytes.len() {
-        next = put(line, next, bytes[i]);
-        i += 1;
-    }
-    next
+    let mut page = Page::new(line, at);
+    page.put_all(bytes);
+    page.place()
 }
 
 // Writes the bytes of a slice as two digits each.
 pub fn put_all_hex(line: &mut [u8], at: usize, bytes: &[u8]) -> usize
     ensures { pen line.new result ≡ puts (pen line.old at) (hexes_of bytes.now) }
 {
-    let mut next = at;
-    let mut i = 0;
-    while i < bytes.len() {
-        next = put_hex(line, next, bytes[i]);
-        i += 1;
-    }
-    next
-}
-
-// The last decimal digit of a number.
-fn last_digit(n: usize) -> u8
-    ensures { result ≡ 48 + n % 10 }
-{
-    (48 + n % 10) as u8
+    let mut page = Page::new(line, at);
+    page.put_all_hex(bytes);
+    page.place()
 }
 
 // Writes a number in decimal, with no leading zero.
-#[tactic(auto, using(crate::proofs::Digits::last_digits))]
 pub fn put_decimal(line: &mut [u8], at: usize, n: usize) -> usize
     ensures { pen line.new result ≡ puts (pen line.old at) (decimal_of n) }
 {
-    if n < 10 {
-        return put(line, at, last_digit(n));
-    }
-    let next = put_decimal(line, at, n / 10);
-    put(line, next, last_digit(n))
+    let mut page = Page::new(line, at);
+    page.put_decimal(n);
+    page.place()
 }
