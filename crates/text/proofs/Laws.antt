@@ -9,7 +9,7 @@ use lib.ListN.{length, take, drop, get_or, set, length-append, length-set}
 use lib.Seq.{take-suc, append_snoc, set-append_seam, take_all}
 use borrow.Table.Steps.{cases}
 use borrow.Author.Tests.{lt-ltb, le-ltb, ltb-true, ltb-false}
-use Rattle.text.specs.declared.Page.{Page}
+use Rattle.text.specs.declared.Writer.{Writer}
 use Rattle.text.specs.Text.{Writes, Pen, pen, pushed, puts, digit_of, hex_of, spelled, hexes_of, decimals, decimal_of}
 
 -- ---- calls that follow one another
@@ -27,13 +27,13 @@ puts-append p (x ∷ a) b = puts-append (pushed p x) a b
 pub more : (p q r : Pen) (a b : List ℕ) → q ≡ puts p a → r ≡ puts q b → r ≡ puts p (a ++ b)
 more p q r a b e f = f ∙ (ap (λ (z : Pen). puts z b) e ∙ puts-append p a b)
 
--- a page on which nothing was written
-pub wrote_none : (p : Page) → Writes p p []
+-- a writer that wrote nothing
+pub wrote_none : (p : Writer) → Writes p p []
 unfolding puts
 wrote_none p = record { lent = refl; text = refl }
 
 -- a call that writes a, and then one that writes b, write a ++ b
-pub and_then : {p q r : Page} {a b : List ℕ} → Writes p q a → Writes q r b → Writes p r (a ++ b)
+pub and_then : {p q r : Writer} {a b : List ℕ} → Writes p q a → Writes q r b → Writes p r (a ++ b)
 and_then e f = record { lent = f.lent ∙ e.lent; text = more _ _ _ _ _ e.text f.text }
 
 -- ---- a loop over the bytes of a slice: f is the text of one byte
@@ -53,7 +53,7 @@ turn f p q r s i e g h = more p q r (spelled f (take i s)) (f (get_or s i 0)) e 
 pub whole : (f : ℕ → List ℕ) (p q : Pen) (s : List ℕ) (i : ℕ) → q ≡ puts p (spelled f (take i s)) → length s ≤ i → q ≡ puts p (spelled f s)
 whole f p q s i e h = e ∙ ap (λ (l : List ℕ). puts p (spelled f l)) (take_all i s h)
 
-pub wrote_turn : {p q r : Page} (f : ℕ → List ℕ) (s : List ℕ) (i : ℕ)
+pub wrote_turn : {p q r : Writer} (f : ℕ → List ℕ) (s : List ℕ) (i : ℕ)
     → Writes p q (spelled f (take i s)) → Writes q r (f (get_or s i 0)) → i < length s → Writes p r (spelled f (take (i + 1) s))
 wrote_turn f s i e g h = rw (spelled-more f s i h) (and_then e g)
 
@@ -82,10 +82,10 @@ pub decimal-more : (n : ℕ) → 10 ≤ n → decimal_of n ≡ decimal_of (n / 1
 unfolding decimal_of
 decimal-more n h = rw (le-ltb n 10 h, more-fuel n (suc (n / 10)) (n / 10) (omega arith) (omega arith))
 
-pub wrote_digit : {p q : Page} (n d : ℕ) → n < 10 → d ≡ 48 + n % 10 → Writes p q (d ∷ []) → Writes p q (decimal_of n)
+pub wrote_digit : {p q : Writer} (n d : ℕ) → n < 10 → d ≡ 48 + n % 10 → Writes p q (d ∷ []) → Writes p q (decimal_of n)
 wrote_digit n d h e f = rw (decimal-one n h, ← e) f
 
-pub wrote_digits : {p q r : Page} (n d : ℕ)
+pub wrote_digits : {p q r : Writer} (n d : ℕ)
     → 10 ≤ n → d ≡ 48 + n % 10 → Writes p q (decimal_of (n / 10)) → Writes q r (d ∷ []) → Writes p r (decimal_of n)
 wrote_digits n d h e f g = rw (decimal-more n h, ← e) (and_then f g)
 

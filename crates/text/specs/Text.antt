@@ -1,6 +1,6 @@
 -- Text in a lent buffer. The session program prints numbers in decimal, and addresses and replies in 'upper-case hex'.
 use Rattle.std.specs.Prelude.{◌≡◌, ℕ, zero, suc, ◌+◌, ◌/◌, ◌%◌, cond, List, [], ◌∷◌, ◌++◌, ltb, length, set}
-use Rattle.text.specs.declared.Page.{Page}
+use Rattle.text.specs.declared.Writer.{Writer}
 use Prim.Native.Char.{code}
 use Prim.Native.String.{String, [] as none, ◌∷◌ as ◌then◌}
 
@@ -23,12 +23,12 @@ unfoldable pub puts : Pen → List ℕ → Pen
 puts p [] = p
 puts p (b ∷ bs) = puts (pushed p b) bs
 
--- what a page shows: the bytes of the lent buffer, and the place
-abbrev pub pen_of : Page → Pen
+-- what a writer shows: the bytes of the lent buffer, and the place
+abbrev pub pen_of : Writer → Pen
 pen_of p = pen p.bytes.now p.at
 
--- the page q is p with a text more; it still holds the buffer that was lent
-pub record Writes (p q : Page) (t : List ℕ) : Type 0 where
+-- the writer q is p with a text more; it still holds the buffer that was lent
+pub record Writes (p q : Writer) (t : List ℕ) : Type 0 where
   pub lent : q.bytes.ghost_name ≡ p.bytes.ghost_name
   pub text : pen_of q ≡ puts (pen_of p) t
 

@@ -1,13 +1,13 @@
-// Text: bytes, upper-case hexadecimal and decimals, written on a page, which is a lent buffer with
-// the place of the next byte.
+// Text: bytes, upper-case hexadecimal and decimals, written into a lent buffer by a writer, which holds
+// the buffer and the place of the next byte.
 //
 // Where the buffer is full, nothing more is written and the place stays; so no method asks anything
-// of its caller. `Writes` fixes every byte of the buffer, and says that the page still holds it.
+// of its caller. `Writes` fixes every byte of the buffer, and says that the writer still holds it.
 //
 // Calls follow one another as their texts do: proofs/Laws.antt, `more` and `and_then`.
 #![tactic(auto)]
 
-ghost use Rattle.std.specs.Prelude.{◌≡◌, [], ◌∷◌, ◌<◌};
+ghost use Rattle.std.specs.Prelude.{◌≡◌, [], ◌∷◌, ◌++◌, ◌<◌};
 ghost use Rattle.text.specs.Text.{pen, puts, pen_of, Writes, digit_of, hex_of, hexes_of, word_hex_of, decimal_of};
 
 // The upper-case digit of a number below 16.
@@ -20,18 +20,18 @@ fn hex_digit(value: u8) -> u8
 
 // A lent buffer, and the place where the next byte goes.
 #[derive(Drop)]
-pub struct Page<'a> {
+pub struct Writer<'a> {
     bytes: &'a mut [u8],
     at: usize,
 }
 
-impl<'a> Page<'a> {
+impl<'a> Writer<'a> {
     // A buffer that is written from a place on.
-    pub fn new(bytes: &'a mut [u8], at: usize) -> Page<'a>
+    pub fn new(bytes: &'a mut [u8], at: usize) -> Writer<'a>
         ensures lent { result.bytes.ghost_name ≡ bytes.entry.ghost_name }
         ensures text { pen_of result ≡ pen bytes.old at }
     {
-        Page { bytes, at }
+        Writer { bytes, at }
     }
 
     // The place after what was written.
@@ -94,6 +94,22 @@ impl<'a> Page<'a> {
         self.put_decimal(n / 10);
         self.put(b'0' + (n % 10) as u8);
     }
+
+    // Writes a word and a number.
+    pub fn put_number(&mut self, word: &[u8], n: usize)
+        ensures { Writes self.old self.new (word.now ++ decimal_of n) }
+    {
+        self.put_all(word);
+        self.put_decimal(n);
+    }
+
+    // Writes a word and an address.
+    pub fn put_address(&mut self, word: &[u8], address: u16)
+        ensures { Writes self.old self.new (word.now ++ word_hex_of address) }
+    {
+        self.put_all(word);
+        self.put_word_hex(address);
+    }
 }
 
 // ---- the same on a buffer and a place, with the place after it as the answer
@@ -102,52 +118,52 @@ impl<'a> Page<'a> {
 pub fn put(line: &mut [u8], at: usize, byte: u8) -> usize
     ensures { pen line.new result ≡ puts (pen line.old at) (byte ∷ []) }
 {
-    let mut page = Page::new(line, at);
-    page.put(byte);
-    page.place()
+    let mut out = Writer::new(line, at);
+    out.put(byte);
+    out.place()
 }
 
 // Writes a byte as two digits, the high one first.
 pub fn put_hex(line: &mut [u8], at: usize, byte: u8) -> usize
     ensures { pen line.new result ≡ puts (pen line.old at) (hex_of byte) }
 {
-    let mut page = Page::new(line, at);
-    page.put_hex(byte);
-    page.place()
+    let mut out = Writer::new(line, at);
+    out.put_hex(byte);
+    out.place()
 }
 
 // Writes a two-byte number, an address or a code, as four digits.
 pub fn put_word_hex(line: &mut [u8], at: usize, word: u16) -> usize
     ensures { pen line.new result ≡ puts (pen line.old at) (word_hex_of word) }
 {
-    let mut page = Page::new(line, at);
-    page.put_word_hex(word);
-    page.place()
+    let mut out = Writer::new(line, at);
+    out.put_word_hex(word);
+    out.place()
 }
 
 // Writes the bytes of a slice as they are.
 pub fn put_all(line: &mut [u8], at: usize, bytes: &[u8]) -> usize
     ensures { pen line.new result ≡ puts (pen line.old at) bytes.now }
 {
-    let mut page = Page::new(line, at);
-    page.put_all(bytes);
-    page.place()
+    let mut out = Writer::new(line, at);
+    out.put_all(bytes);
+    out.place()
 }
 
 // Writes the bytes of a slice as two digits each.
 pub fn put_all_hex(line: &mut [u8], at: usize, bytes: &[u8]) -> usize
     ensures { pen line.new result ≡ puts (pen line.old at) (hexes_of bytes.now) }
 {
-    let mut page = Page::new(line, at);
-    page.put_all_hex(bytes);
-    page.place()
+    let mut out = Writer::new(line, at);
+    out.put_all_hex(bytes);
+    out.place()
 }
 
 // Writes a number in decimal, with no leading zero.
 pub fn put_decimal(line: &mut [u8], at: usize, n: usize) -> usize
     ensures { pen line.new result ≡ puts (pen line.old at) (decimal_of n) }
 {
-    let mut page = Page::new(line, at);
-    page.put_decimal(n);
-    page.place()
+    let mut out = Writer::new(line, at);
+    out.put_decimal(n);
+    out.place()
 }

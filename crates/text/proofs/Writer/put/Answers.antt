@@ -2,7 +2,7 @@
 use Rattle.std.proofs.Common.{refl}
 use borrow.Author.Tests.{lt-ltb, le-ltb}
 use Rattle.text.specs.Text.{puts}
-use Rattle.text.proofs.Page.put.Goals as goal
+use Rattle.text.proofs.Writer.put.Goals as goal
 
 pub returns-then-self : goal.returns-then-self
 unfolding puts

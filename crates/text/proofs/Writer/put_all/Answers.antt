@@ -1,7 +1,7 @@
 -- The invariant at the first byte, at the next one, and at the end.
 use Rattle.std.proofs.Common.{arith, take_all}
 use Rattle.text.proofs.Laws.{plain, wrote_none, wrote_turn, spelled-plain}
-use Rattle.text.proofs.Page.put_all.Goals as goal
+use Rattle.text.proofs.Writer.put_all.Goals as goal
 
 pub loop-byte-init : goal.loop-byte-init
 loop-byte-init c = wrote_none _

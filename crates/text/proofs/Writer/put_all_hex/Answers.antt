@@ -2,7 +2,7 @@
 use Rattle.std.proofs.Common.{arith}
 use Rattle.text.specs.Text.{hex_of}
 use Rattle.text.proofs.Laws.{wrote_none, wrote_turn}
-use Rattle.text.proofs.Page.put_all_hex.Goals as goal
+use Rattle.text.proofs.Writer.put_all_hex.Goals as goal
 
 pub loop-byte-init : goal.loop-byte-init
 loop-byte-init c = wrote_none _
