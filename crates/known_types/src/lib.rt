@@ -12,10 +12,7 @@ ghost use Rattle.known_types.specs.Types.{common, own, known};
 fn is_common(kind: u8) -> bool
     ensures { result ≡ common kind }
 {
-    match kind {
-        0xF0..=0xF1 | 0xF3..=0xF5 => true,
-        _ => false,
-    }
+    matches!(kind, 0xF0..=0xF1 | 0xF3..=0xF5)
 }
 
 // Whether a type is one of a category's own.
@@ -23,34 +20,13 @@ fn is_own(category: u8, kind: u8) -> bool
     ensures { result ≡ own category kind }
 {
     match category {
-        tapa::PSAM => match kind {
-            0x42..=0x45 | 0x47..=0x48 => true,
-            _ => false,
-        },
-        tapa::CARD => match kind {
-            0x40..=0x47 => true,
-            _ => false,
-        },
-        tapa::USER_INTERFACE => match kind {
-            0x60..=0x61 | 0x63..=0x6A | 0x6C | 0x80 | 0x82 => true,
-            _ => false,
-        },
-        tapa::MERCHANT => match kind {
-            0x61 | 0x63..=0x64 | 0x80..=0x82 => true,
-            _ => false,
-        },
-        tapa::DATA_STORE => match kind {
-            0x90..=0x98 => true,
-            _ => false,
-        },
-        tapa::COMMUNICATION => match kind {
-            0xB0..=0xB1 => true,
-            _ => false,
-        },
-        tapa::EVENT => match kind {
-            0xC0..=0xC3 => true,
-            _ => false,
-        },
+        tapa::PSAM => matches!(kind, 0x42..=0x45 | 0x47..=0x48),
+        tapa::CARD => matches!(kind, 0x40..=0x47),
+        tapa::USER_INTERFACE => matches!(kind, 0x60..=0x61 | 0x63..=0x6A | 0x6C | 0x80 | 0x82),
+        tapa::MERCHANT => matches!(kind, 0x61 | 0x63..=0x64 | 0x80..=0x82),
+        tapa::DATA_STORE => matches!(kind, 0x90..=0x98),
+        tapa::COMMUNICATION => matches!(kind, 0xB0..=0xB1),
+        tapa::EVENT => matches!(kind, 0xC0..=0xC3),
         _ => false,
     }
 }
@@ -59,11 +35,5 @@ fn is_own(category: u8, kind: u8) -> bool
 pub fn is_known(category: u8, kind: u8) -> bool
     ensures { result ≡ known category kind }
 {
-    if is_own(category, kind) {
-        return true;
-    }
-    if category <= tapa::EVENT {
-        return is_common(kind);
-    }
-    false
+    is_own(category, kind) || category <= tapa::EVENT && is_common(kind)
 }
