@@ -34,12 +34,10 @@ pub fn is_listed(cells: &[u32; 16], count: usize, handler: u16) -> bool
 {
     let wanted = handler as u32;
     let mut found = false;
-    let mut i = 0;
-    while i < count {
-        if cells[i] / 2 == wanted {
+    for cell in &cells[..count] {
+        if *cell / 2 == wanted {
             found = true;
         }
-        i += 1;
     }
     found
 }
@@ -67,12 +65,10 @@ pub fn is_open(cells: &[u32; 16], count: usize, handler: u16) -> bool
 {
     let wanted = handler as u32 * 2 + 1;
     let mut found = false;
-    let mut i = 0;
-    while i < count {
-        if cells[i] == wanted {
+    for cell in &cells[..count] {
+        if *cell == wanted {
             found = true;
         }
-        i += 1;
     }
     found
 }

@@ -49,14 +49,7 @@ fn has_misshapen(cells: &[u32; 16], count: usize) -> bool
     requires { count ≤ 16 }
     ensures { result ≡ some_of misshapen (rows_of cells.now count) }
 {
-    let mut i = count;
-    while 0 < i {
-        i -= 1;
-        if !is_shaped(cells[i] / 2) {
-            return true;
-        }
-    }
-    false
+    cells[..count].iter().any(|cell| !is_shaped(*cell / 2))
 }
 
 // Of rows that are shaped.
@@ -64,14 +57,7 @@ fn has_repeats(cells: &[u32; 16], count: usize) -> bool
     requires { Narrow cells.now count }
     ensures { result ≡ repeats (rows_of cells.now count) }
 {
-    let mut i = count;
-    while 0 < i {
-        i -= 1;
-        if router_rows::is_listed(cells, i, router_rows::address_at(cells, i)) {
-            return true;
-        }
-    }
-    false
+    (0..count).any(|i| router_rows::is_listed(cells, i, router_rows::address_at(cells, i)))
 }
 
 // Of rows that are shaped.
@@ -79,15 +65,9 @@ fn multi_count(cells: &[u32; 16], count: usize) -> usize
     requires { Narrow cells.now count }
     ensures { result ≡ count_of is_multi (rows_of cells.now count) }
 {
-    let mut multis = 0;
-    let mut i = 0;
-    while i < count {
-        if tapa::is_multi(router_rows::address_at(cells, i)) {
-            multis += 1;
-        }
-        i += 1;
-    }
-    multis
+    (0..count)
+        .filter(|i| tapa::is_multi(router_rows::address_at(cells, *i)))
+        .count()
 }
 
 // Whether the rows of a column are a table.
@@ -155,23 +135,13 @@ pub fn set_up_with(rows: Rows) -> SetUp
 
 // ---- the lent rows
 
-// One lent row, whole.
-fn row_at(rows: &[Row], i: usize) -> Row
-    requires { i < length rows.now }
-    ensures { result ≡ get_or rows.now i no_row }
-{
-    rows[i]
-}
-
 // The lent rows by value, read in order.
 pub fn read_rows(rows: &[Row]) -> Rows
     ensures { result ≡ rows_read rows.now }
 {
     let mut held = table::no_rows();
-    let mut i = 0;
-    while i < rows.len() {
-        held = table::with_row(held, row_at(rows, i));
-        i += 1;
+    for row in rows {
+        held = table::with_row(held, *row);
     }
     held
 }
@@ -183,21 +153,10 @@ pub fn set_up(rows: &[Row]) -> SetUp
     set_up_with(read_rows(rows))
 }
 
-// Lends the first rows of an array.
-fn lend(rows: [Row; 17], count: usize) -> SetUp
-    requires { count ≤ 17 }
-    ensures { result ≡ set_up_of (take count rows) }
-{
-    set_up(&rows[..count])
-}
-
 // Set-up with the first rows of one's own. There is one place more than a table has, so that a
 // table that is too long can be lent too.
 pub fn set_up_own(rows: [Row; 17], count: usize) -> SetUp
     ensures { result ≡ set_up_of (take count rows) }
 {
-    if 17 < count {
-        return lend(rows, 17);
-    }
-    lend(rows, count)
+    set_up(&rows[..count.min(17)])
 }

@@ -1,11 +1,8 @@
 -- What is known so far is what the rows passed tell.
-use Rattle.std.proofs.Common.{◌≡◌, ◌≤◌, ◌-◌}
+use Rattle.std.proofs.Common.{◌≡◌}
 use Rattle.lists.specs.Lists.{some_of}
 use Rattle.table.specs.Table.{is_open_at, rows_of}
 use Rattle.router_rows.proofs.is_open.Given as goal
 
-abbrev pub invariant-loop-i : goal.invariant-loop-i
-invariant-loop-i l = (l.i ≤ l.count) × (l.found ≡ some_of (is_open_at l.handler) (rows_of l.cells l.i))
-
-abbrev pub decreases-loop-i : goal.decreases-loop-i
-decreases-loop-i l = l.count - l.i
+abbrev pub invariant-loop-cell : goal.invariant-loop-cell
+invariant-loop-cell l = l.found ≡ some_of (is_open_at l.handler) (rows_of l.cells l.cell-index)
