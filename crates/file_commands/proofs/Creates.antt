@@ -16,7 +16,8 @@ use Rattle.book.specs.declared.Book.{Book}
 use Rattle.book.specs.declared.Entry.{Entry}
 use Rattle.book.specs.declared.Kind.{Kind}
 use Rattle.file_commands.proofs.Rows.{limits-kept, no-records}
-use Rattle.file_commands.specs.Erasing.{code_of_create, create_book, create_ids, create_of, padded, right_shape}
+use Rattle.file_commands.specs.Erasing.{code_of_create, create_book, create_ids, create_of, made_book, made_ids, padded, right_shape}
+use Rattle.files.specs.Coded.{Refused, result_code}
 use Rattle.files.specs.Files.{File, Record, create, create_all, create_code, create_one, empty_file, free_id, insert, new_ids}
 use Rattle.lists.proofs.ByPlace.{count_cut, count_set}
 use Rattle.lists.proofs.Least.{least-is}
@@ -214,10 +215,10 @@ module _ (b : Book) (area : List ℕ) (law : Lawful b area) (n k r : ℕ) (hk : 
 
   -- a wrong shape changes nothing; else it is what a plain list of files does
   pub record CreateRight : Type 0 where
-    pub code : (create_of b n k r).code ≡ cond (right_shape n r) (create_code s n) unsupported_operation
-    pub view : view_of (create_of b n k r).next area ≡ cond (right_shape n r) (create s n k r) s
-    pub ids : (create_of b n k r).ids ≡ padded (cond (eqb (create_of b n k r).code successful) (new_ids n k r s) [])
-    pub lawful : Lawful (create_of b n k r).next area
+    pub code : result_code (create_of b n k r) ≡ cond (right_shape n r) (create_code s n) unsupported_operation
+    pub view : view_of (made_book b (create_of b n k r)) area ≡ cond (right_shape n r) (create s n k r) s
+    pub ids : made_ids (create_of b n k r) ≡ padded (cond (eqb (result_code (create_of b n k r)) successful) (new_ids n k r s) [])
+    pub lawful : Lawful (made_book b (create_of b n k r)) area
 
   done : code_of_create b n r ≡ successful → CreateRight
   done c =
@@ -229,7 +230,7 @@ module _ (b : Book) (area : List ℕ) (law : Lawful b area) (n k r : ℕ) (hk : 
 
   refused : eqb (code_of_create b n r) successful ≡ false → CreateRight
   refused t =
-      let c : (create_of b n k r).code ≡ cond (right_shape n r) (create_code s n) unsupported_operation = rw t (code_is b area n r) in
+      let c : result_code (create_of b n k r) ≡ cond (right_shape n r) (create_code s n) unsupported_operation = rw t (code_is b area n r) in
       record {
         code = c;
         view = rw t (split (right_shape n r) (λ y. let z : eqb (create_code s n) successful ≡ false = ap (λ (m : ℕ). eqb m successful) (sym (rw y at (code_is b area n r))) ∙ t in rw (y, z)) (λ y. rw y));
@@ -246,5 +247,8 @@ books-shaped : (n k r : ℕ) (b : Book) → Shaped b → Shaped (create_book n k
 books-shaped zero k r b h = h
 books-shaped (suc n) k r b h = books-shaped n k r (one_more b k r).next (with-file-shaped b h k r)
 
-pub create-shaped : (b : Book) (n k r : ℕ) → Shaped b → Shaped (create_of b n k r).next
+pub create-shaped : (b : Book) (n k r : ℕ) → Shaped b → Shaped (made_book b (create_of b n k r))
 create-shaped b n k r h = split (eqb (code_of_create b n r) successful) (λ t. rw t (books-shaped n k r b h)) (λ t. rw t h)
+
+pub create-fails : (b : Book) (n k r : ℕ) → Refused (create_of b n k r)
+create-fails b n k r = split (eqb (code_of_create b n r) successful) (λ t. rw t tt) (λ t. rw t (eqb-false (code_of_create b n r) successful t))

@@ -13,6 +13,7 @@ use Rattle.book.specs.declared.Kind.{Kind}
 use Rattle.file_commands.proofs.Rows.{files-left, has-is, known_is, limits-all-left, made-unmade, no-records, rows_left, rows_long, unknown}
 use Rattle.file_commands.proofs.Sweeps.{back-lawful, left-lawful, records-go, records-stay, sweep-view}
 use Rattle.file_commands.specs.Erasing.{all_known, clear_area, clear_of, delete_files_area, delete_files_of, housed, swept_area, unmake, unmake_all}
+use Rattle.files.specs.Coded.{left_in, result_code}
 use Rattle.files.specs.Files.{Record, change, clear, clear_code, delete_files, delete_files_code, has, not_of, twice}
 use Rattle.lists.proofs.Tests.{eqb-turn, split}
 use Rattle.lists.specs.Lists.{keep, some_of}
@@ -27,9 +28,9 @@ module _ (b : Book) (area : List ℕ) (law : Lawful b area) (fs : List ℕ) wher
       (split (some_of (unknown b.kinds) fs) (λ t. rw t) (λ t. rw t (split (twice fs) (λ u. rw u) (λ u. rw u))))
 
   pub record DeleteFilesRight : Type 0 where
-    pub code : (delete_files_of b fs).code ≡ delete_files_code (view_of b area) fs
-    pub view : view_of (delete_files_of b fs).next (delete_files_area b fs area) ≡ delete_files (view_of b area) fs
-    pub lawful : Lawful (delete_files_of b fs).next (delete_files_area b fs area)
+    pub code : result_code (delete_files_of b fs) ≡ delete_files_code (view_of b area) fs
+    pub view : view_of (left_in b (delete_files_of b fs)) (delete_files_area b fs area) ≡ delete_files (view_of b area) fs
+    pub lawful : Lawful (left_in b (delete_files_of b fs)) (delete_files_area b fs area)
 
   abbrev ks : List Kind
   ks = unmake_all b.kinds fs
@@ -72,9 +73,9 @@ module _ (b : Book) (area : List ℕ) (law : Lawful b area) (f : ℕ) where
       (λ u. rw t (records-go entries area law.apart rows m (k ∙ rw (t, u)) ∙ sym (no-records b.kinds m entries area u law.fit))))
 
   pub record ClearRight : Type 0 where
-    pub code : (clear_of b f).code ≡ clear_code (view_of b area) f
-    pub view : view_of (clear_of b f).next (clear_area b area f) ≡ clear (view_of b area) f
-    pub lawful : Lawful (clear_of b f).next (clear_area b area f)
+    pub code : result_code (clear_of b f) ≡ clear_code (view_of b area) f
+    pub view : view_of (left_in b (clear_of b f)) (clear_area b area f) ≡ clear (view_of b area) f
+    pub lawful : Lawful (left_in b (clear_of b f)) (clear_area b area f)
 
   cleared-view : view_of (book_of b.kinds (keep (housed rows) entries)) (swept_area rows entries area) ≡ change (λ (rs : List Record). []) f (view_of b area)
   cleared-view =

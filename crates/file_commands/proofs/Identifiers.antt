@@ -15,6 +15,7 @@ use Rattle.book.specs.declared.Book.{Book}
 use Rattle.book.specs.declared.Kind.{Kind}
 use Rattle.file_commands.proofs.Creates.{Identifier, all_made, create-right, files-long, free-below, full-none, made_more}
 use Rattle.file_commands.specs.Erasing.{create_ids, create_of, right_shape}
+use Rattle.files.specs.Coded.{result_code}
 use Rattle.files.specs.Files.{File, create_code, new_ids}
 use Rattle.lists.proofs.ByPlace.{few-keep}
 use Rattle.lists.proofs.Counts.{length-keep}
@@ -77,18 +78,18 @@ module _ (b : Book) (area : List ℕ) (law : Lawful b area) where
   held-few = omega (arith, held, length-keep is_made b.kinds, few-keep is_made b.kinds, law.shape.files)
 
   pub record RoomRight (n k r : ℕ) : Type 0 where
-    pub full : 16 < length s + n → (create_of b n k r).code ≡ insufficient_resources
-    pub free : length s + n ≤ 16 → (create_of b n k r).code ≡ successful
+    pub full : 16 < length s + n → result_code (create_of b n k r) ≡ insufficient_resources
+    pub free : length s + n ≤ 16 → result_code (create_of b n k r) ≡ successful
 
   pub room-create : (n k r : ℕ) → k ≤ 255 → right_shape n r ≡ true → RoomRight n k r
   room-create n k r hk y =
-      let c : (create_of b n k r).code ≡ create_code s n = (create-right b area law n k r hk).code ∙ rw y in
+      let c : result_code (create_of b n k r) ≡ create_code s n = (create-right b area law n k r hk).code ∙ rw y in
       record { full = λ h. c ∙ rw (lt-ltb 16 (length s + n) h); free = λ h. c ∙ rw (le-ltb 16 (length s + n) h) }
 
   -- one file is refused exactly where 16 are held, and else there is a free row for it
   pub record RoomForOne (k r : ℕ) : Type 0 where
-    pub full : length s ≡ 16 → (create_of b 1 k r).code ≡ insufficient_resources
-    pub free : length s < 16 → ((create_of b 1 k r).code ≡ successful) × is_at (free_kind 0 b.kinds) ≡ true
+    pub full : length s ≡ 16 → result_code (create_of b 1 k r) ≡ insufficient_resources
+    pub free : length s < 16 → (result_code (create_of b 1 k r) ≡ successful) × is_at (free_kind 0 b.kinds) ≡ true
 
   pub room-for-one : (k r : ℕ) → k ≤ 255 → r ≤ 128 → RoomForOne k r
   room-for-one k r hk hr =

@@ -12,7 +12,8 @@ use Rattle.book.specs.declared.Entry.{Entry}
 use Rattle.book.specs.declared.Kind.{Kind}
 use Rattle.file_commands.proofs.Rows.{fits-housed, made-left, made-unmade}
 use Rattle.file_commands.proofs.Sweeps.{sweep-blank, sweep-stays}
-use Rattle.file_commands.specs.Erasing.{all_known, clear_area, clear_of, code_of_create, create_of, delete_files_area, delete_files_of, unmake, unmake_all}
+use Rattle.file_commands.specs.Erasing.{all_known, clear_area, clear_of, code_of_create, create_of, made_book, delete_files_area, delete_files_of, unmake, unmake_all}
+use Rattle.files.specs.Coded.{left_in, result_code}
 use Rattle.lists.proofs.Members.{in_all}
 use Rattle.lists.proofs.Tests.{split}
 use Rattle.lists.specs.Lists.{In, some_of}
@@ -34,7 +35,7 @@ module _ (b : Book) (area : List ℕ) (law : Lawful b area) where
     pub gone : (x : Entry) → In x (entries_of b) → some_of (eqb x.file) fs ≡ true → window (delete_files_area b fs area) x.slot ≡ blank
     pub kept : (x : Entry) → In x (entries_of b) → some_of (eqb x.file) fs ≡ false → window (delete_files_area b fs area) x.slot ≡ window area x.slot
 
-  pub delete-files-clean : (fs : List ℕ) → (delete_files_of b fs).code ≡ successful → DeleteFilesClean fs
+  pub delete-files-clean : (fs : List ℕ) → result_code (delete_files_of b fs) ≡ successful → DeleteFilesClean fs
   delete-files-clean fs c =
       let ks : List Kind = unmake_all b.kinds fs in
       split (all_known b.kinds fs)
@@ -49,7 +50,7 @@ module _ (b : Book) (area : List ℕ) (law : Lawful b area) where
     pub gone : (x : Entry) → In x (entries_of b) → x.file ≡ f → window (clear_area b area f) x.slot ≡ blank
     pub kept : (x : Entry) → In x (entries_of b) → (x.file ≡ f → ⊥) → window (clear_area b area f) x.slot ≡ window area x.slot
 
-  pub clear-clean : (f : ℕ) → (clear_of b f).code ≡ successful → ClearClean f
+  pub clear-clean : (f : ℕ) → result_code (clear_of b f) ≡ successful → ClearClean f
   clear-clean f c =
       let ks : List Kind = unmake b.kinds f in
       split (kind_of b.kinds f).made
@@ -60,13 +61,13 @@ module _ (b : Book) (area : List ℕ) (law : Lawful b area) where
       (λ t. refuses (rw t at c))
 
 -- ---- a command that is refused changes nothing
-pub create-refused : (b : Book) (n k r : ℕ) → ((create_of b n k r).code ≡ successful → ⊥) → (create_of b n k r).next ≡ b
+pub create-refused : (b : Book) (n k r : ℕ) → (result_code (create_of b n k r) ≡ successful → ⊥) → made_book b (create_of b n k r) ≡ b
 create-refused b n k r h =
     split (eqb (code_of_create b n r) successful) (λ t. absurd (h (rw t))) (λ t. rw t)
 
-pub delete-files-refused : (b : Book) (fs : List ℕ) (area : List ℕ) → ((delete_files_of b fs).code ≡ successful → ⊥)
-    → ((delete_files_of b fs).next ≡ b) × (delete_files_area b fs area ≡ area)
+pub delete-files-refused : (b : Book) (fs : List ℕ) (area : List ℕ) → (result_code (delete_files_of b fs) ≡ successful → ⊥)
+    → (left_in b (delete_files_of b fs) ≡ b) × (delete_files_area b fs area ≡ area)
 delete-files-refused b fs area h = split (all_known b.kinds fs) (λ t. absurd (h (rw t))) (λ t. rw t (refl, refl))
 
-pub clear-refused : (b : Book) (f : ℕ) (area : List ℕ) → ((clear_of b f).code ≡ successful → ⊥) → ((clear_of b f).next ≡ b) × (clear_area b area f ≡ area)
+pub clear-refused : (b : Book) (f : ℕ) (area : List ℕ) → (result_code (clear_of b f) ≡ successful → ⊥) → (left_in b (clear_of b f) ≡ b) × (clear_area b area f ≡ area)
 clear-refused b f area h = split (kind_of b.kinds f).made (λ t. absurd (h (rw t))) (λ t. rw t (refl, refl))

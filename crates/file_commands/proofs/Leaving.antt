@@ -5,12 +5,12 @@ use mathlib.Core.List.{List, [], ◌∷◌}
 use mathlib.Core.Path.{◌≡◌, ap, sym, ◌∙◌}
 use native.Mathlib.Omega.{arith}
 use lib.ListN.{length}
+use Rattle.std.specs.Prelude.{None, Some}
 use Rattle.book.proofs.Kept.{table-shaped}
 use Rattle.book.proofs.Tables.{row-long}
 use Rattle.book.specs.Book.{Shaped, kind_of, no_kind, with_kinds}
 use Rattle.book.specs.declared.Book.{Book}
 use Rattle.file_commands.specs.Erasing.{all_known, left_of, unmake, unmake_all}
-use Rattle.file_commands.specs.declared.Left.{Left}
 use Rattle.files.specs.Asked.{id_at, ids_from, ids_of}
 
 -- ---- words, one by one
@@ -34,7 +34,7 @@ module _ (b : Book) (ids : List ℕ) (n : ℕ) where
       record { early = omega arith; shape = h; check = ap (all_known b.kinds) z; rows = ap (λ (fs : List ℕ). with_kinds b (unmake_all b.kinds fs)) z }
 
   module _ (left : Book) (i : ℕ) (g : Leaving b ids n left i) where
-    pub leaving-miss : i < n → (kind_of left.kinds (id_at ids i)).made ≡ false → ◌≡◌ {A = Left} (record { known = false; left = b }) (left_of b (ids_of ids))
+    pub leaving-miss : i < n → (kind_of left.kinds (id_at ids i)).made ≡ false → None ≡ left_of b (ids_of ids)
     leaving-miss h t =
         let z : all_known b.kinds (ids_of ids) ≡ false = sym g.check ∙ ap (all_known left.kinds) (ids_more ids i n h) ∙ rw t in
         rw z
@@ -51,9 +51,9 @@ module _ (b : Book) (ids : List ℕ) (n : ℕ) where
           rows = sym (ap (λ (z : List ℕ). with_kinds left (unmake_all left.kinds z)) (ids_more ids i n h)) ∙ g.rows;
         })
 
-    pub leaving-last : n ≤ i → ◌≡◌ {A = Left} (record { known = true; left = left }) (left_of b (ids_of ids))
+    pub leaving-last : n ≤ i → Some left ≡ left_of b (ids_of ids)
     leaving-last h =
         let e = ids-end ids i n h in
         let z : all_known b.kinds (ids_of ids) ≡ true = sym g.check ∙ ap (all_known left.kinds) e in
         let v : left ≡ with_kinds b (unmake_all b.kinds (ids_of ids)) = ap (λ (fs : List ℕ). with_kinds left (unmake_all left.kinds fs)) (sym e) ∙ g.rows in
-        rw z (ap (λ (w : Book). record { known = true; left = w }) v)
+        rw z (ap Some v)

@@ -5,12 +5,12 @@ use mathlib.Core.Path.{◌≡◌, ap, refl, sym, ◌∙◌}
 use native.Mathlib.Omega.{arith}
 use lib.ListN.{length, length-append, replicate, set}
 use lib.Seq.{append_snoc, set_at}
+use Rattle.std.specs.Prelude.{Ok}
 use Rattle.book.proofs.Kept.{with-file-shaped}
 use Rattle.book.specs.Book.{Shaped, one_more}
 use Rattle.book.specs.declared.Book.{Book}
 use Rattle.book.specs.declared.Created.{Created}
 use Rattle.file_commands.specs.Erasing.{code_of_create, create_book, create_ids, create_of, padded}
-use Rattle.file_commands.specs.declared.Made.{Made}
 use Rattle.tapa.specs.Codes.{successful}
 
 pub filled-with : (l : List ℕ) (i n x : ℕ) → length l ≡ i → i < n → set (l ++ replicate (n - i) 0) i x ≡ (l ++ x ∷ []) ++ replicate (n - (i + 1)) 0
@@ -54,10 +54,10 @@ module _ (n k r : ℕ) (b : Book) (small : n ≤ 16) where
       }
 
   pub making-last : (given : List ℕ) (next : Book) (i : ℕ) → Making n k r b given next i → n ≤ i → code_of_create b n r ≡ successful
-      → ◌≡◌ {A = Made} (record { code = successful; ids = given; next = next }) (create_of b n k r)
+      → Ok (record { ids = given; next = next }) ≡ create_of b n k r
   making-last given next i g h c =
       let z : n - i ≡ 0 = omega (arith, g.early) in
       let l : g.front ≡ create_ids n k r b = sym (append-nil g.front) ∙ ap (λ (m : ℕ). g.front ++ create_ids m k r next) (sym z) ∙ g.rest in
       let v : next ≡ create_book n k r b = ap (λ (m : ℕ). create_book m k r next) (sym z) ∙ g.book in
       let w : given ≡ padded (create_ids n k r b) = g.list ∙ ap (λ (m : ℕ). g.front ++ replicate (16 - m) 0) (sym g.size) ∙ ap padded l in
-      rw c (λ j. record { code = successful; ids = w j; next = v j })
+      rw c (λ j. Ok (record { ids = w j; next = v j }))

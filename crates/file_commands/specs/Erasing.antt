@@ -1,12 +1,11 @@
--- What the commands on files do to the book and to the area: one result, one content of lent memory.
-use Rattle.std.specs.Prelude.{◌+◌, ◌-◌, suc, zero, ℕ, ◌&&◌, Bool, cond, false, true, ◌++◌, List, [], ◌∷◌, eqb, leb, ltb, length, replicate}
+-- What the commands on files do to the book and to the area: one result, one content of lent memory. A command that fails is its code, and changes neither.
+use Rattle.std.specs.Prelude.{Option, Some, None, Result, Ok, Err, ◌+◌, ◌-◌, suc, zero, ℕ, ◌&&◌, Bool, cond, false, true, ◌++◌, List, [], ◌∷◌, eqb, leb, ltb, length, replicate}
 use Rattle.book.specs.Book.{book_of, entries_of, is_made, kind_of, no_kind, one_more, with_kind, with_kinds}
 use Rattle.book.specs.declared.Book.{Book}
 use Rattle.book.specs.declared.Entry.{Entry}
 use Rattle.book.specs.declared.Kind.{Kind}
-use Rattle.file_commands.specs.declared.Erased.{Erased}
-use Rattle.file_commands.specs.declared.Left.{Left}
 use Rattle.file_commands.specs.declared.Made.{Made}
+use Rattle.files.specs.Coded.{left_by}
 use Rattle.lists.specs.Lists.{checks, count, keep}
 use Rattle.slots.specs.Slots.{wiped}
 use Rattle.tapa.specs.Codes.{insufficient_resources, invalid_file_id, successful, unsupported_operation}
@@ -41,11 +40,16 @@ create_ids (suc n) k r b = (one_more b k r).id ∷ create_ids n k r (one_more b 
 abbrev pub padded : List ℕ → List ℕ
 padded l = l ++ replicate (16 - length l) 0
 
-abbrev pub create_of : Book → ℕ → ℕ → ℕ → Made
+abbrev pub create_of : Book → ℕ → ℕ → ℕ → Result Made ℕ
 create_of b n k r =
-    cond (eqb (code_of_create b n r) successful)
-    (record { code = successful; ids = padded (create_ids n k r b); next = create_book n k r b })
-    (record { code = code_of_create b n r; ids = padded []; next = b })
+    cond (eqb (code_of_create b n r) successful) (Ok (record { ids = padded (create_ids n k r b); next = create_book n k r b })) (Err (code_of_create b n r))
+
+-- what there is afterwards: the identifiers, zeros where none were given, and the book
+abbrev pub made_ids : Result Made ℕ → List ℕ
+made_ids r = left_by (λ (m : Made). m.ids) (padded []) r
+
+abbrev pub made_book : Book → Result Made ℕ → Book
+made_book b r = left_by (λ (m : Made). m.next) b r
 
 -- ---- records go with their files
 
@@ -74,27 +78,21 @@ abbrev pub unmake_all : List Kind → List ℕ → List Kind
 unmake_all ks [] = ks
 unmake_all ks (f ∷ fs) = unmake_all (unmake ks f) fs
 
-abbrev pub left_of : Book → List ℕ → Left
-left_of b fs = cond (all_known b.kinds fs) (record { known = true; left = with_kinds b (unmake_all b.kinds fs) }) (record { known = false; left = b })
+abbrev pub left_of : Book → List ℕ → Option Book
+left_of b fs = cond (all_known b.kinds fs) (Some (with_kinds b (unmake_all b.kinds fs))) None
 
 -- ---- Delete File
 
-abbrev pub delete_files_of : Book → List ℕ → Erased
-delete_files_of b fs =
-    cond (all_known b.kinds fs)
-    (record { code = successful; next = swept_book (with_kinds b (unmake_all b.kinds fs)) })
-    (record { code = invalid_file_id; next = b })
+abbrev pub delete_files_of : Book → List ℕ → Result Book ℕ
+delete_files_of b fs = cond (all_known b.kinds fs) (Ok (swept_book (with_kinds b (unmake_all b.kinds fs)))) (Err invalid_file_id)
 
 abbrev pub delete_files_area : Book → List ℕ → List ℕ → List ℕ
 delete_files_area b fs area = cond (all_known b.kinds fs) (swept_area (unmake_all b.kinds fs) (entries_of b) area) area
 
 -- ---- Clear: the same with the one file, whose row then stands again
 
-abbrev pub clear_of : Book → ℕ → Erased
-clear_of b f =
-    cond (kind_of b.kinds f).made
-    (record { code = successful; next = book_of b.kinds (keep (housed (unmake b.kinds f)) (entries_of b)) })
-    (record { code = invalid_file_id; next = b })
+abbrev pub clear_of : Book → ℕ → Result Book ℕ
+clear_of b f = cond (kind_of b.kinds f).made (Ok (book_of b.kinds (keep (housed (unmake b.kinds f)) (entries_of b)))) (Err invalid_file_id)
 
 abbrev pub clear_area : Book → List ℕ → ℕ → List ℕ
 clear_area b area f = cond (kind_of b.kinds f).made (swept_area (unmake b.kinds f) (entries_of b) area) area

@@ -1,3 +1,4 @@
 pub mod Files
 pub mod Asked
 pub mod Sound
+pub mod Coded

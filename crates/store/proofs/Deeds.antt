@@ -1,26 +1,27 @@
 -- What each command's returns need: its shape, its parts, and the deed that it is.
 use Prim.Native.Nat.{◌+◌, ◌-◌, ◌<◌, suc, zero, ℕ, ◌≤◌}
 use mathlib.Core.Bool.{Bool, false, true}
-use mathlib.Core.List.{◌++◌, List}
-use mathlib.Core.Path.{ap, refl, subst, sym, ◌∙◌, ◌≡◌}
+use mathlib.Core.List.{List}
+use mathlib.Core.Path.{ap, refl, subst, ◌∙◌, ◌≡◌}
 use native.Mathlib.Omega.{arith}
 use lib.Dec.{eqb}
 use lib.ListN.{drop, get_or, length, length-append, length-drop, length-replicate, take}
 use lib.Seq.{take_all}
-use borrow.Author.Tests.{eq-eqb, eqb-false, eqb-true, le-leb, lt-leb, ne_eqb}
+use borrow.Author.Tests.{eq-eqb, eqb-true, le-leb, lt-leb, ne_eqb}
+use Rattle.std.specs.Prelude.{Err, Ok}
 use Rattle.book.specs.Book.{Lawful, entries_of, one_more}
 use Rattle.book.specs.declared.Book.{Book}
 use Rattle.file_commands.proofs.Creates.{create-right, create-room}
-use Rattle.file_commands.specs.Erasing.{code_of_create, create_ids, create_of, padded}
-use Rattle.file_commands.specs.declared.Erased.{Erased}
+use Rattle.file_commands.specs.Erasing.{code_of_create, create_ids, create_of, made_book, made_ids, padded}
 use Rattle.file_commands.specs.declared.Made.{Made}
 use Rattle.files.specs.Asked.{carrying, data_from, get_shape, key_from, key_len, key_shape, mark_shape, rec_len, record_shape, seen_part, words_of}
+use Rattle.files.specs.Coded.{Coded, answered, left_in, result_code}
 use Rattle.lists.proofs.Tests.{and_yes, split}
 use Rattle.record_commands.specs.declared.Added.{Added}
 use Rattle.record_commands.specs.declared.Deleted.{Deleted}
 use Rattle.sights.specs.Sights.{sight_of}
 use Rattle.sights.specs.declared.Got.{Got}
-use Rattle.store.specs.Store.{Deed, Did, Says, add_deed, added_deed, clear_deed, code_deed, create_deed, deed_if, deed_of, delete_deed, delete_files_deed, deleted_deed, erased_deed, find_deed, find_delete_deed, get_deed, mark_deed, shown_deed, update_deed}
+use Rattle.store.specs.Store.{Deed, Did, MakesAtMost, Roomy, Says, add_deed, added_deed, clear_deed, code_deed, create_deed, deed_if, deed_of, delete_deed, delete_files_deed, deleted_deed, gone_deed, ids_part, find_deed, find_delete_deed, get_deed, mark_deed, shown_deed, update_deed}
 use Rattle.store.specs.declared.Done.{Done}
 use Rattle.tapa.specs.Codes.{add_record, clear_file, close_handler, create_file, delete_file, delete_record, find_and_delete, find_record, get_record, open_handler, successful, unsupported_operation, update_record}
 use Rattle.tapa.specs.Numbers.{two_bytes, word_at}
@@ -39,10 +40,10 @@ seen t g h b area before after r law e k s =
 
 -- ---- files or records went, or one was written: the code and the next book, and what the area then holds
 
-pub erased-did : (t : Bool) (g e : Erased) (b : Book) (area a after₁ before after : List ℕ) (r : Done) → Lawful e.next a → t ≡ true → g ≡ e → after₁ ≡ a
-    → Says (two_bytes g.code) before after g.next r → Did (deed_if t (erased_deed e a) b area) before after after₁ r
-erased-did t g e b area a after₁ before after r law te ge ea s =
-    rw te (record { says = subst (λ (z : Erased). Says (two_bytes z.code) before after z.next r) ge s; area' = ea; law = law })
+pub gone-did : (t : Bool) (g e : Coded Book) (b : Book) (area a after₁ before after : List ℕ) (r : Done) → Lawful (left_in b e) a → t ≡ true → g ≡ e → after₁ ≡ a
+    → Says (two_bytes (result_code g)) before after (left_in b g) r → Did (deed_if t (gone_deed e b a) b area) before after after₁ r
+gone-did t g e b area a after₁ before after r law te ge ea s =
+    rw te (record { says = subst (λ (z : Coded Book). Says (two_bytes (result_code z)) before after (left_in b z) r) ge s; area' = ea; law = law })
 
 pub deleted-did : (t : Bool) (g e : Deleted) (b : Book) (area a after₁ before after : List ℕ) (r : Done) → Lawful e.next a → t ≡ true → g ≡ e → after₁ ≡ a
     → Says (two_bytes g.code) before after g.next r → Did (deed_if t (deleted_deed e a) b area) before after after₁ r
@@ -56,39 +57,36 @@ added-did t g e b area a after₁ before after r law te ge ea s =
 
 -- ---- Create
 
-module _ (part : List ℕ) (b : Book) (area : List ℕ) (law : Lawful b area) (m : Made) (e : m ≡ create_of b (get_or part 0 0) (get_or part 1 0) (word_at part 2))
+module _ (part : List ℕ) (b : Book) (area : List ℕ) (law : Lawful b area) (m : Coded Made) (e : m ≡ create_of b (get_or part 0 0) (get_or part 1 0) (word_at part 2))
     (long : length part ≡ 4) (byte : get_or part 1 0 ≤ 255) (before after : List ℕ) (r : Done) where
-  -- m stands for what Create made
-  anew : Says (carrying m.code (words_of (take (get_or part 0 0) m.ids))) before after m.next r → Did (create_deed part b area) before after area r
-  anew s =
+  -- m stands for what Create came to
+  pub made-did : Says (answered (ids_part (get_or part 0 0)) m) before after (made_book b m) r → Did (create_deed part b area) before after area r
+  made-did s =
       rw (eq-eqb (length part) 4 long)
       (record {
-        says = subst (λ (z : Made). Says (carrying z.code (words_of (take (get_or part 0 0) z.ids))) before after z.next r) e s;
+        says = subst (λ (z : Coded Made). Says (answered (ids_part (get_or part 0 0)) z) before after (made_book b z) r) e s;
         area' = refl;
         law = (create-right b area law (get_or part 0 0) (get_or part 1 0) (word_at part 2) byte).lawful;
       })
-
-  pub made_none : (m.code ≡ successful → ⊥) → Says (two_bytes m.code) before after m.next r → Did (create_deed part b area) before after area r
-  made_none h s = anew (rw (ne_eqb m.code 0 h) s)
-
-  pub made_some : m.code ≡ successful → Says (words_of (take (get_or part 0 0) m.ids) ++ two_bytes successful) before after m.next r → Did (create_deed part b area) before after area r
-  made_some h s = anew (rw (eq-eqb m.code 0 h) s)
 
 ids-long : (n k r : ℕ) (b : Book) → length (create_ids n k r b) ≡ n
 ids-long zero k r b = refl
 ids-long (suc n) k r b = ap suc (ids-long n k r (one_more b k r).next)
 
 -- where files were made, there are at most 16 of them, and 16 places for their identifiers
-pub made-room : (b : Book) (n k r : ℕ) (m : Made) → m ≡ create_of b n k r → m.code ≡ successful → (n ≤ 16) × (length m.ids ≡ 16)
-made-room b n k r m e c =
-    let done : (create_of b n k r).code ≡ successful = sym (ap (λ (z : Made). z.code) e) ∙ c in
+pub made-room : (b : Book) (n k r : ℕ) (m : Made) → Ok m ≡ create_of b n k r → Roomy n m
+made-room b n k r m e =
     split (eqb (code_of_create b n r) successful)
     (λ t.
     let room = create-room b n r (eqb-true (code_of_create b n r) 0 t) in
-    let made : m.ids ≡ padded (create_ids n k r b) = ap (λ (z : Made). z.ids) e ∙ rw t in
+    let made : m.ids ≡ padded (create_ids n k r b) = ap made_ids e ∙ rw t in
     let size : length (create_ids n k r b) ≡ n = ids-long n k r b in
-    (room.few, ap length made ∙ simp (length-append, length-replicate) (omega (arith, size, room.few))))
-    (λ t. let z : code_of_create b n r ≡ 0 = rw t at done in absurd (eqb-false (code_of_create b n r) 0 t z))
+    record { few = room.few; places = ap length made ∙ simp (length-append, length-replicate) (omega (arith, size, room.few)) })
+    (λ t. let z : Ok m ≡ Err (code_of_create b n r) = rw t at e in absurd (cc))
+
+pub makes-at-most : (b : Book) (n k r : ℕ) (m : Coded Made) → m ≡ create_of b n k r → MakesAtMost n m
+makes-at-most b n k r (Ok m) e = made-room b n k r m e
+makes-at-most b n k r (Err c) e = tt
 
 -- ---- Get
 

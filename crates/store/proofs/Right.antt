@@ -1,21 +1,23 @@
 -- 'Every command does to the store what it does to a plain list of files, each a list of records': one theorem a command, one over all, and one of a whole message.
-use Prim.Native.Nat.{suc, zero, ℕ, ◌≤◌}
-use mathlib.Core.Bool.{Bool, false, true}
+use Prim.Native.Nat.{◌<◌, suc, zero, ℕ, ◌≤◌}
+use mathlib.Core.Bool.{Bool, cond, false, true}
 use mathlib.Core.List.{◌++◌, List, [], ◌∷◌}
 use mathlib.Core.Option.{some}
-use mathlib.Core.Path.{ap, refl, ◌∙◌, ◌≡◌}
+use mathlib.Core.Path.{ap, refl, sym, ◌∙◌, ◌≡◌}
 use native.Mathlib.Omega.{arith}
 use lib.Dec.{eqb}
 use lib.ListN.{drop, get_or, length, take}
 use lib.Seq.{get_or-drop, take_at}
-use borrow.Author.Tests.{eqb-true}
+use borrow.Author.Tests.{eqb-true, ne_eqb}
+use Rattle.std.specs.Prelude.{Err, Ok}
 use Rattle.book.specs.Book.{Lawful, view_of}
 use Rattle.book.specs.declared.Book.{Book}
-use Rattle.file_commands.proofs.Creates.{CreateRight, create-right}
+use Rattle.file_commands.proofs.Creates.{CreateRight, create-fails, create-right}
 use Rattle.file_commands.proofs.Erases.{clear-right, delete-files-right}
-use Rattle.file_commands.specs.Erasing.{create_of, padded, right_shape}
+use Rattle.file_commands.specs.Erasing.{create_of, made_ids, padded, right_shape}
 use Rattle.file_commands.specs.declared.Made.{Made}
 use Rattle.files.specs.Asked.{Done, carrying, coded, create_shape, data_from, done_by, file_in, get_shape, ids_of, ids_shape, key_from, key_shape, mark_shape, on_add, on_clear, on_create, on_delete, on_delete_files, on_find, on_find_delete, on_get, on_mark, on_update, record_shape, seen_part, shaped, words_of}
+use Rattle.files.specs.Coded.{Coded, Refused, answered, result_code}
 use Rattle.files.specs.Files.{File, create_code, create_one, new_ids}
 use Rattle.lists.proofs.Tests.{checks-twin, split}
 use Rattle.lists.specs.Lists.{Bytes}
@@ -26,7 +28,7 @@ use Rattle.record_commands.proofs.Updates.{update-right}
 use Rattle.replies.specs.Replies.{answer_of, replied}
 use Rattle.sights.proofs.Sights.{find-right, get-right}
 use Rattle.store.specs.Plain.{Told, tells_after, told_of}
-use Rattle.store.specs.Store.{Deed, Result, add_deed, checked, clear_deed, code_deed, create_deed, deed_if, deed_of, delete_deed, delete_files_deed, find_deed, find_delete_deed, get_deed, handled, made_deed, mark_deed, obeys, update_deed}
+use Rattle.store.specs.Store.{Deed, Result, add_deed, checked, clear_deed, code_deed, create_deed, deed_if, deed_of, delete_deed, delete_files_deed, find_deed, find_delete_deed, get_deed, handled, ids_part, made_deed, mark_deed, obeys, update_deed}
 use Rattle.replies.specs.declared.Checked.{Checked}
 use Rattle.replies.specs.declared.Checked.TheVariants.{Failed, Passed}
 use Rattle.tapa.specs.Codes.{add_record, clear_file, close_handler, create_file, delete_file, delete_record, find_and_delete, find_record, get_record, open_handler, successful, unsupported_operation, update_record}
@@ -45,6 +47,16 @@ pub record Right (d : Deed) (p : Done) : Type 0 where
   pub part : d.part ≡ p.part
   pub files : view_of d.book d.area ≡ p.files
   pub lawful : Lawful d.book d.area
+
+-- ---- a command's answer, from its code and its fields
+module _ {A : Type 0} (fields : A → List ℕ) where
+  carried : (r : Coded A) (code : ℕ) (l : List ℕ) → result_code r ≡ code → Refused r → ((a : A) → r ≡ Ok a → fields a ≡ l) → answered fields r ≡ carrying code l
+  carried (Ok a) code l c n f = rw (sym c) (ap (λ (z : List ℕ). z ++ two_bytes successful) (f a refl))
+  carried (Err m) code l c n f = rw (sym c, ne_eqb m successful n)
+
+  alone : (r : Coded A) (code : ℕ) → result_code r ≡ code → 0 < code → answered fields r ≡ two_bytes code
+  alone (Ok a) code c h = let z : successful ≡ code = c in absurd (omega arith)
+  alone (Err m) code c h = ap two_bytes c
 
 module _ (b : Book) (area : List ℕ) (law : Lawful b area) where
   abbrev s : List File
@@ -71,31 +83,30 @@ module _ (b : Book) (area : List ℕ) (law : Lawful b area) where
       is : CreateRight b area law n k r byte
       is = create-right b area law n k r byte
 
-      abbrev m : Made
+      abbrev m : Coded Made
       m = create_of b n k r
 
+      abbrev ids : Made → List ℕ
+      ids = ids_part n
+
       -- the shape is right: the identifiers are those of the new files
-      part-is : right_shape n r ≡ true → carrying m.code (words_of (take n m.ids)) ≡ carrying (create_code s n) (words_of (new_ids n k r s))
-      part-is t =
-          let c : m.code ≡ create_code s n = is.code ∙ rw t in
-          ap (λ (z : ℕ). carrying z (words_of (take n m.ids))) c
-          ∙ split (eqb (create_code s n) successful)
-          (λ u.
-          let v : eqb m.code successful ≡ true = ap (λ (z : ℕ). eqb z successful) c ∙ u in
-          let l : m.ids ≡ padded (new_ids n k r s) = is.ids ∙ rw v in
-          let w : take n m.ids ≡ new_ids n k r s = ap (take n) l ∙ take_at (new_ids n k r s) _ n (news n s) in
-          rw u (ap (λ (z : List ℕ). words_of z ++ two_bytes successful) w))
-          (λ u. rw u)
+      part-is : right_shape n r ≡ true → answered ids m ≡ carrying (create_code s n) (words_of (new_ids n k r s))
+      part-is t = carried ids m (create_code s n) (words_of (new_ids n k r s)) (is.code ∙ rw t) (create-fails b n k r) given
         where
           news : (n : ℕ) (s : List File) → length (new_ids n k r s) ≡ n
           news zero s = refl
           news (suc n) s = ap suc (news n (create_one k r s))
 
-      of-shape : length part ≡ 4 → (t : Bool) → right_shape n r ≡ t → Right (made_deed n m area) (shaped t (on_create part s) s)
+          given : (a : Made) → m ≡ Ok a → ids a ≡ words_of (new_ids n k r s)
+          given a e =
+              let l : a.ids ≡ padded (new_ids n k r s) = ap made_ids (sym e) ∙ is.ids ∙ ap (λ (z : Coded Made). padded (cond (eqb (result_code z) successful) (new_ids n k r s) [])) e in
+              ap words_of (ap (take n) l ∙ take_at (new_ids n k r s) _ n (news n s))
+
+      of-shape : length part ≡ 4 → (t : Bool) → right_shape n r ≡ t → Right (made_deed n m b area) (shaped t (on_create part s) s)
       of-shape e true t = record { part = part-is t; files = is.view ∙ rw t; lawful = is.lawful }
       of-shape e false t =
-          let c : m.code ≡ unsupported_operation = is.code ∙ rw t in
-          record { part = ap (λ (z : ℕ). carrying z (words_of (take n m.ids))) c; files = is.view ∙ rw t; lawful = is.lawful }
+          let c : result_code m ≡ unsupported_operation = is.code ∙ rw t in
+          record { part = alone ids m unsupported_operation c (omega arith); files = is.view ∙ rw t; lawful = is.lawful }
 
       pub create-does : Right (create_deed part b area) (shaped (create_shape part) (on_create part s) s)
       unfolding create_shape

@@ -1,12 +1,12 @@
 -- The data store (section 11): what a message comes to, over the book and the lent area.
-use Rattle.std.specs.Prelude.{◌<◌, ℕ, Bool, cond, not, ◌||◌, List, [], ◌∷◌, ◌≡◌, eqb, get_or, length, take}
+use Rattle.std.specs.Prelude.{IfOk, ◌≤◌, ◌<◌, ℕ, Bool, cond, not, ◌||◌, List, [], ◌∷◌, ◌≡◌, eqb, get_or, length, take}
 use Rattle.std.proofs.Math.Option.{some}
 use Rattle.book.specs.Book.{Lawful, entries_of}
 use Rattle.book.specs.declared.Book.{Book}
-use Rattle.file_commands.specs.Erasing.{clear_area, clear_of, create_of, delete_files_area, delete_files_of}
-use Rattle.file_commands.specs.declared.Erased.{Erased}
+use Rattle.file_commands.specs.Erasing.{clear_area, clear_of, create_of, delete_files_area, delete_files_of, made_book}
 use Rattle.file_commands.specs.declared.Made.{Made}
 use Rattle.files.specs.Asked.{carrying, data_from, file_in, get_shape, ids_of, ids_shape, key_from, key_shape, mark_shape, record_shape, seen_part, words_of}
+use Rattle.files.specs.Coded.{Coded, answered, left_in, result_code}
 use Rattle.lists.specs.Lists.{checks, onto}
 use Rattle.message.specs.Message.{part_of}
 use Rattle.message.specs.declared.Head.{Head}
@@ -52,19 +52,24 @@ code_deed code b area = record { part = two_bytes code; book = b; area = area }
 abbrev pub deed_if : Bool → Deed → Book → List ℕ → Deed
 deed_if right d b area = cond right d (code_deed unsupported_operation b area)
 
-abbrev pub made_deed : ℕ → Made → List ℕ → Deed
-made_deed n m area = record { part = carrying m.code (words_of (take n m.ids)); book = m.next; area = area }
+-- the identifiers of n new files
+abbrev pub ids_part : ℕ → Made → List ℕ
+ids_part n m = words_of (take n m.ids)
+
+abbrev pub made_deed : ℕ → Coded Made → Book → List ℕ → Deed
+made_deed n r b area = record { part = answered (ids_part n) r; book = made_book b r; area = area }
 
 -- the rest of Create's shape is among its codes (room file_commands)
 abbrev pub create_deed : List ℕ → Book → List ℕ → Deed
 create_deed part b area =
-    deed_if (eqb (length part) 4) (made_deed (get_or part 0 0) (create_of b (get_or part 0 0) (get_or part 1 0) (word_at part 2)) area) b area
+    deed_if (eqb (length part) 4) (made_deed (get_or part 0 0) (create_of b (get_or part 0 0) (get_or part 1 0) (word_at part 2)) b area) b area
 
-abbrev pub erased_deed : Erased → List ℕ → Deed
-erased_deed e area = code_deed e.code e.next area
+-- files or records went: the code alone
+abbrev pub gone_deed : Coded Book → Book → List ℕ → Deed
+gone_deed r b area = code_deed (result_code r) (left_in b r) area
 
 abbrev pub delete_files_deed : List ℕ → Book → List ℕ → Deed
-delete_files_deed part b area = deed_if (ids_shape part) (erased_deed (delete_files_of b (ids_of part)) (delete_files_area b (ids_of part) area)) b area
+delete_files_deed part b area = deed_if (ids_shape part) (gone_deed (delete_files_of b (ids_of part)) b (delete_files_area b (ids_of part) area)) b area
 
 abbrev pub added_deed : Added → List ℕ → Deed
 added_deed a area = record { part = carrying a.code (two_bytes a.pointer); book = a.next; area = area }
@@ -102,7 +107,7 @@ find_delete_deed part b area =
     (deleted_deed (find_delete_of b area (file_in part) (key_from part 2)) (find_delete_area b area (file_in part) (key_from part 2))) b area
 
 abbrev pub clear_deed : List ℕ → Book → List ℕ → Deed
-clear_deed part b area = deed_if (eqb (length part) 2) (erased_deed (clear_of b (file_in part)) (clear_area b area (file_in part))) b area
+clear_deed part b area = deed_if (eqb (length part) 2) (gone_deed (clear_of b (file_in part)) b (clear_area b area (file_in part))) b area
 
 -- 'Open Handler and Close Handler without data are answered '0000', and nothing changes in the store'
 abbrev pub mark_deed : List ℕ → Book → List ℕ → Deed
@@ -162,6 +167,14 @@ pub record Did (deed : Deed) (before after area : List ℕ) (d : Done) : Type 0 
   pub says : Says deed.part before after deed.book d
   pub area' : area ≡ deed.area
   pub law : Lawful deed.book deed.area
+
+-- where files were made, there are at most 16 of them, and 16 places for their identifiers
+pub record Roomy (n : ℕ) (m : Made) : Type 0 where
+  pub few : n ≤ 16
+  pub places : length m.ids ≡ 16
+
+abbrev pub MakesAtMost : ℕ → Coded Made → Type 0
+MakesAtMost n r = IfOk r (Roomy n)
 
 -- what Get or Find got is a record of the book, where its code is '0000'
 abbrev pub Shows : Book → Got → Type 0

@@ -11,12 +11,15 @@ ghost use Rattle.std.specs.Prelude.{◌*◌, ◌+◌, ◌≤◌, ◌≡◌, leng
 ghost use Rattle.std.proofs.Math.Option.{some};
 ghost use Rattle.book.specs.Book.{Lawful, entries_of, rec_of};
 ghost use Rattle.files.specs.Asked.{carrying, seen_part, sight_bytes, words_of};
+ghost use Rattle.file_commands.specs.Erasing.{made_book};
+ghost use Rattle.files.specs.Coded.{answered, left_in, result_code};
 ghost use Rattle.lists.specs.Lists.{over};
 ghost use Rattle.sights.specs.Sights.{sight_of};
-ghost use Rattle.store.specs.Store.{Did, Handling, Says, Shows, add_deed, clear_deed, create_deed, deed_of, delete_deed, delete_files_deed, find_deed, find_delete_deed, get_deed, handled, mark_deed, update_deed};
+ghost use Rattle.store.specs.Store.{Did, Handling, MakesAtMost, Says, Shows, add_deed, clear_deed, create_deed, deed_of, delete_deed, delete_files_deed, find_deed, find_delete_deed, get_deed, handled, ids_part, mark_deed, update_deed};
 ghost use Rattle.tapa.specs.Numbers.{two_bytes};
 
 use book::{Book, Entry};
+use file_commands::Made;
 use replies::{Answer, Checked};
 use sights::Got;
 use store::{Done, Handled};
@@ -79,6 +82,35 @@ fn code_alone(b: Book, body: &mut [u8], code: u16) -> Done
     }
 }
 
+// A response of nothing but a code: that of a command that took files or records away, or failed.
+fn gone(b: Book, body: &mut [u8], done: Result<Book, u16>) -> Done
+    requires { 390 ≤ length body.old }
+    ensures { Says (two_bytes (result_code done)) body.old body.new (left_in b done) result }
+{
+    match done {
+        Ok(next) => code_alone(next, body, tapa::SUCCESSFUL),
+        Err(code) => code_alone(b, body, code),
+    }
+}
+
+// A response of the new files' identifiers and a code; of a code alone where the command failed.
+fn made(b: Book, body: &mut [u8], n: usize, done: Result<Made, u16>) -> Done
+    requires in_bounds { 390 ≤ length body.old }
+    requires few { MakesAtMost n done }
+    ensures { Says (answered (ids_part n) done) body.old body.new (made_book b done) result }
+{
+    match done {
+        Ok(made) => {
+            let end = put_ids(body, &made.ids, n);
+            Done {
+                long: put_word(body, end, tapa::SUCCESSFUL),
+                next: made.next,
+            }
+        }
+        Err(code) => code_alone(b, body, code),
+    }
+}
+
 // A response of a pointer and a code; of a code alone where the command failed.
 fn code_behind(b: Book, body: &mut [u8], code: u16, pointer: u16) -> Done
     requires { 390 ≤ length body.old }
@@ -124,16 +156,8 @@ fn on_create(b: Book, area: &[u8], part: &[u8], body: &mut [u8]) -> Done
         return code_alone(b, body, tapa::UNSUPPORTED_OPERATION);
     }
     let n = tapa::byte_at(part, 0);
-    let made = file_commands::create(b, n, tapa::byte_at(part, 1), tapa::word_at(part, 2));
-    let code = made.code;
-    if code != tapa::SUCCESSFUL {
-        return code_alone(made.next, body, code);
-    }
-    let end = put_ids(body, &made.ids, n as usize);
-    Done {
-        long: put_word(body, end, code),
-        next: made.next,
-    }
+    let done = file_commands::create(b, n, tapa::byte_at(part, 1), tapa::word_at(part, 2));
+    made(b, body, usize::from(n), done)
 }
 
 fn on_delete_files(b: Book, area: &mut [u8], part: &[u8], body: &mut [u8]) -> Done
@@ -144,8 +168,8 @@ fn on_delete_files(b: Book, area: &mut [u8], part: &[u8], body: &mut [u8]) -> Do
     if !store_asked::has_ids(part) {
         return code_alone(b, body, tapa::UNSUPPORTED_OPERATION);
     }
-    let gone = file_commands::delete_files(b, area, part);
-    code_alone(gone.next, body, gone.code)
+    let done = file_commands::delete_files(b, area, part);
+    gone(b, body, done)
 }
 
 fn on_add(b: Book, area: &mut [u8], part: &[u8], body: &mut [u8]) -> Done
@@ -242,8 +266,8 @@ fn on_clear(b: Book, area: &mut [u8], part: &[u8], body: &mut [u8]) -> Done
     if part.len() != 2 {
         return code_alone(b, body, tapa::UNSUPPORTED_OPERATION);
     }
-    let gone = file_commands::clear(b, area, tapa::word_at(part, 0));
-    code_alone(gone.next, body, gone.code)
+    let done = file_commands::clear(b, area, tapa::word_at(part, 0));
+    gone(b, body, done)
 }
 
 // ---- what the store recognises beside them
