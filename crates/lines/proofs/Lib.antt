@@ -1,3 +1,2 @@
-pub mod Say
 pub mod Short
 pub mod Example

@@ -6,11 +6,11 @@ use native.Mathlib.Omega.{arith}
 use native.Mathlib.Numerals.{add-one}
 use lib.Dec.{ltb}
 use lib.ListN.{length, take, drop, get_or, set, length-append, length-set}
-use lib.Seq.{take-suc, append_snoc, set-append_seam, take_all}
+use lib.Seq.{take-suc, append_snoc, set-append_seam}
 use borrow.Table.Steps.{cases}
 use borrow.Author.Tests.{lt-ltb, le-ltb, ltb-true, ltb-false}
 use Rattle.text.specs.declared.Writer.{Writer}
-use Rattle.text.specs.Text.{Writes, Pen, pen, pushed, puts, digit_of, hex_of, spelled, hexes_of, decimals, decimal_of}
+use Rattle.text.specs.Text.{Writes, Pen, pen, pushed, puts, spelled, hexes_of, decimals, decimal_of}
 
 -- ---- calls that follow one another
 
@@ -36,34 +36,14 @@ wrote_none p = record { lent = refl; text = refl }
 pub and_then : {p q r : Writer} {a b : List ℕ} → Writes p q a → Writes q r b → Writes p r (a ++ b)
 and_then e f = record { lent = f.lent ∙ e.lent; text = more _ _ _ _ _ e.text f.text }
 
--- ---- a loop over the bytes of a slice: f is the text of one byte
+-- ---- the bytes of a slice, one more: f is the text of one byte
 
 spelled-append : (f : ℕ → List ℕ) (a b : List ℕ) → spelled f (a ++ b) ≡ spelled f a ++ spelled f b
 spelled-append f [] b = refl
 spelled-append f (x ∷ a) b = rw (spelled-append f a b, append_assoc)
 
-spelled-more : (f : ℕ → List ℕ) (s : List ℕ) (i : ℕ) → i < length s → spelled f (take (i + 1) s) ≡ spelled f (take i s) ++ f (get_or s i 0)
+pub spelled-more : (f : ℕ → List ℕ) (s : List ℕ) (i : ℕ) → i < length s → spelled f (take (i + 1) s) ≡ spelled f (take i s) ++ f (get_or s i 0)
 spelled-more f s i h = rw (add-one, take-suc s i 0, spelled-append f (take i s) (get_or s i 0 ∷ []), append-nil)
-
-pub turn : (f : ℕ → List ℕ) (p q r : Pen) (s : List ℕ) (i : ℕ)
-    → q ≡ puts p (spelled f (take i s)) → r ≡ puts q (f (get_or s i 0)) → i < length s
-    → r ≡ puts p (spelled f (take (i + 1) s))
-turn f p q r s i e g h = more p q r (spelled f (take i s)) (f (get_or s i 0)) e g ∙ ap (puts p) (sym (spelled-more f s i h))
-
-pub whole : (f : ℕ → List ℕ) (p q : Pen) (s : List ℕ) (i : ℕ) → q ≡ puts p (spelled f (take i s)) → length s ≤ i → q ≡ puts p (spelled f s)
-whole f p q s i e h = e ∙ ap (λ (l : List ℕ). puts p (spelled f l)) (take_all i s h)
-
-pub wrote_turn : {p q r : Writer} (f : ℕ → List ℕ) (s : List ℕ) (i : ℕ)
-    → Writes p q (spelled f (take i s)) → Writes q r (f (get_or s i 0)) → i < length s → Writes p r (spelled f (take (i + 1) s))
-wrote_turn f s i e g h = rw (spelled-more f s i h) (and_then e g)
-
--- a byte as it is
-abbrev pub plain : ℕ → List ℕ
-plain b = b ∷ []
-
-pub spelled-plain : (s : List ℕ) → spelled plain s ≡ s
-spelled-plain [] = refl
-spelled-plain (b ∷ s) = rw (spelled-plain s)
 
 -- ---- decimals
 
@@ -81,13 +61,6 @@ decimal-one n h = rw (lt-ltb n 10 h)
 pub decimal-more : (n : ℕ) → 10 ≤ n → decimal_of n ≡ decimal_of (n / 10) ++ ((48 + n % 10) ∷ [])
 unfolding decimal_of
 decimal-more n h = rw (le-ltb n 10 h, more-fuel n (suc (n / 10)) (n / 10) (omega arith) (omega arith))
-
-pub wrote_digit : {p q : Writer} (n d : ℕ) → n < 10 → d ≡ 48 + n % 10 → Writes p q (d ∷ []) → Writes p q (decimal_of n)
-wrote_digit n d h e f = rw (decimal-one n h, ← e) f
-
-pub wrote_digits : {p q r : Writer} (n d : ℕ)
-    → 10 ≤ n → d ≡ 48 + n % 10 → Writes p q (decimal_of (n / 10)) → Writes q r (d ∷ []) → Writes p r (decimal_of n)
-wrote_digits n d h e f g = rw (decimal-more n h, ← e) (and_then f g)
 
 -- ---- room: what fits is written whole, and what stood behind it stays
 
@@ -161,16 +134,3 @@ one-digit n h = rw (decimal-one n h) (omega arith)
 
 pub five-digits : (n : ℕ) → n < 100000 → length (decimal_of n) ≤ 5
 five-digits = wider 10000 4 (omega arith) (wider 1000 3 (omega arith) (wider 100 2 (omega arith) (wider 10 1 (omega arith) one-digit)))
-
--- ---- the returns of `put_hex` and `put_decimal`, over plain values
-
-pub hex-two : (p q r : Pen) (x y b : ℕ) → q ≡ puts p (x ∷ []) → r ≡ puts q (y ∷ []) → x ≡ digit_of (b / 16) → y ≡ digit_of (b % 16) → r ≡ puts p (hex_of b)
-hex-two p q r x y b e f g h = rw (← g, ← h) (more p q r (x ∷ []) (y ∷ []) e f)
-
-pub dec-one : (p q : Pen) (n d : ℕ) → n < 10 → d ≡ 48 + n % 10 → q ≡ puts p (d ∷ []) → q ≡ puts p (decimal_of n)
-dec-one p q n d h e f = rw (decimal-one n h, ← e) f
-
-pub dec-more : (p q r : Pen) (n d : ℕ)
-    → 10 ≤ n → d ≡ 48 + n % 10 → q ≡ puts p (decimal_of (n / 10)) → r ≡ puts q (d ∷ [])
-    → r ≡ puts p (decimal_of n)
-dec-more p q r n d h e f g = rw (decimal-more n h, ← e) (more p q r (decimal_of (n / 10)) (d ∷ []) f g)

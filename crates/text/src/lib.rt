@@ -5,7 +5,7 @@
 // of its caller. `Writes` fixes every byte of the buffer, and says that the writer still holds it.
 //
 // Calls follow one another as their texts do: proofs/Laws.antt, `more` and `and_then`.
-#![tactic(auto)]
+#![tactic(auto, using(crate::proofs::Calls::calls))]
 
 ghost use Rattle.std.specs.Prelude.{◌≡◌, [], ◌∷◌, ◌++◌, ◌<◌};
 ghost use Rattle.text.specs.Text.{pen, puts, pen_of, Writes, digit_of, hex_of, hexes_of, word_hex_of, decimal_of};
@@ -67,6 +67,7 @@ impl<'a> Writer<'a> {
     }
 
     // Writes the bytes of a slice as they are.
+    #[tactic(auto, using(crate::proofs::Calls::one_more))]
     pub fn put_all(&mut self, bytes: &[u8])
         ensures { Writes self.old self.new bytes.now }
     {
@@ -76,6 +77,7 @@ impl<'a> Writer<'a> {
     }
 
     // Writes the bytes of a slice as two digits each.
+    #[tactic(auto, using(crate::proofs::Calls::one_more))]
     pub fn put_all_hex(&mut self, bytes: &[u8])
         ensures { Writes self.old self.new (hexes_of bytes.now) }
     {
@@ -85,6 +87,7 @@ impl<'a> Writer<'a> {
     }
 
     // Writes a number in decimal, with no leading zero.
+    #[tactic(auto, using(crate::proofs::Calls::digits))]
     pub fn put_decimal(&mut self, n: usize)
         ensures { Writes self.old self.new (decimal_of n) }
     {

@@ -2,4 +2,3 @@ pub mod Page
 pub mod Ends
 pub mod Short
 pub mod Sums
-pub mod Written

@@ -7,30 +7,39 @@
 #![tactic(auto)]
 
 ghost use Rattle.std.specs.Prelude.{◌≡◌};
-ghost use Rattle.text.specs.Text.{pen, puts};
+ghost use Rattle.text.specs.Text.{pen, puts, Writes};
 ghost use Rattle.transcript.specs.Prescribed.{line_with};
 
 use run::Item;
+use text::Writer;
 
-// Writes the line of an item from a place on, and answers the place after it. Where nothing is left,
-// nothing is written.
-pub fn put_line(line: &mut [u8], at: usize, item: Item, reply: &[u8; 10]) -> usize
-    ensures { pen line.new result ≡ puts (pen line.old at) (line_with item reply.now) }
+// Writes the line of an item. Where nothing is left, nothing is written.
+#[tactic(auto, using(text::proofs::Calls::calls), unfolding(crate::specs::Prescribed::line_with))]
+fn put_item(out: &mut Writer<'_>, item: Item, reply: &[u8; 10])
+    ensures { Writes out.old out.new (line_with item reply.now) }
 {
     match item {
-        Item::Came { step, outcome } => lines::step_line(line, at, step, outcome, reply),
-        Item::Over(sums) => lines::totals_line(
-            line,
-            at,
+        Item::Came { step, outcome } => lines::put_step(out, step, outcome, reply),
+        Item::Over(sums) => lines::put_totals(
+            out,
             sums.accepted,
             sums.answered,
             sums.given,
             sums.waiting,
             sums.owing,
         ),
-        Item::Broken(number) => lines::broken_line(line, at, number),
-        Item::Refused(refusal) => lines::table_line(line, at, refusal),
-        Item::TooLong => lines::long_line(line, at),
-        Item::Nothing => at,
+        Item::Broken(number) => lines::put_broken(out, number),
+        Item::Refused(refusal) => lines::put_table(out, refusal),
+        Item::TooLong => lines::put_too_long(out),
+        Item::Nothing => {}
     }
+}
+
+// Writes the line of an item from a place on, and answers the place after it.
+pub fn put_line(line: &mut [u8], at: usize, item: Item, reply: &[u8; 10]) -> usize
+    ensures { pen line.new result ≡ puts (pen line.old at) (line_with item reply.now) }
+{
+    let mut out = Writer::new(line, at);
+    put_item(&mut out, item, reply);
+    out.place()
 }
