@@ -7,9 +7,7 @@
 
 use cutter::{Cut, Start};
 use joiner::Keeping;
-use message::{Reading, Writing};
 use rules::Outcome;
-use table::Checked;
 use tapa::Refusal;
 
 // The words, numbered as they stand in the text of `put_word`.
@@ -69,19 +67,19 @@ fn refused(refusal: Refusal) -> Came {
 }
 
 // A message or Get Next, written.
-pub fn of_writing(word: usize, writing: Writing) -> Came {
+pub fn of_writing(word: usize, writing: Result<usize, Refusal>) -> Came {
     match writing {
-        Writing::Written(n) => Came::Number(word, n),
-        Writing::Refused(refusal) => refused(refusal),
+        Ok(n) => Came::Number(word, n),
+        Err(refusal) => refused(refusal),
     }
 }
 
 // A reply of the event queue or of the data store.
-pub fn of_reply(answer: replies::Answer) -> Came {
+pub fn of_reply(answer: Result<Option<usize>, Refusal>) -> Came {
     match answer {
-        replies::Answer::Reply(n) => Came::Number(REPLY, n),
-        replies::Answer::Nothing => Came::Plain(NOTHING),
-        replies::Answer::Refused(refusal) => refused(refusal),
+        Ok(Some(n)) => Came::Number(REPLY, n),
+        Ok(None) => Came::Plain(NOTHING),
+        Err(refusal) => refused(refusal),
     }
 }
 
@@ -120,10 +118,10 @@ pub fn of_joined(answer: joiner::Answer, joined: usize) -> Came {
     }
 }
 
-pub fn of_checked(checked: Checked) -> Came {
+pub fn of_checked(checked: Result<(), Refusal>) -> Came {
     match checked {
-        Checked::Accepted => Came::Plain(STARTED),
-        Checked::Refused(refusal) => refused(refusal),
+        Ok(()) => Came::Plain(STARTED),
+        Err(refusal) => refused(refusal),
     }
 }
 
@@ -208,8 +206,8 @@ fn put_byte(line: &mut [u8], at: usize, byte: u8) -> usize {
 // Writes a message that is read: its addresses, type, thread and data.
 pub fn put_message(line: &mut [u8], message: &[u8]) -> usize {
     match message_reader::read(message) {
-        Reading::Refused(refusal) => put_came(line, 0, refused(refusal)),
-        Reading::Message(head) => {
+        Err(refusal) => put_came(line, 0, refused(refusal)),
+        Ok(head) => {
             let a = lines::put_address(line, 0, b" message ", head.destination);
             let b = lines::put_address(line, a, b" ", head.source);
             let c = put_byte(line, b, head.kind);

@@ -5,7 +5,7 @@
 #![tactic(auto)]
 
 use fields::NextStep;
-use message::{Coded, Head, Reading};
+use message::Head;
 
 // What came: bytes that do not read as a message, too few of them for one or with a length that does
 // not agree, a command, a response, a response without a code, a give up, a replaced call, or no step.
@@ -89,15 +89,15 @@ fn of_torn(message: &[u8]) -> Arrival {
 
 fn of_message(message: &[u8]) -> Arrival {
     let reading = message_reader::read(message);
-    let Reading::Message(head) = reading else {
+    let Ok(head) = reading else {
         return of_torn(message);
     };
     if head.kind != tapa::RESPONSE {
         return of_head(What::Command, head, 0);
     }
     match message_reader::response_code(message_reader::data_part(message)) {
-        Coded::Code(code) => of_head(What::Response, head, code),
-        Coded::Missing => of_head(What::Uncoded, head, 0),
+        Some(code) => of_head(What::Response, head, code),
+        None => of_head(What::Uncoded, head, 0),
     }
 }
 

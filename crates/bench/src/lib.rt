@@ -24,7 +24,7 @@ use joiner::Joiner;
 use queue::Queue;
 use router::{Routed, Router};
 use rules::Outcome;
-use table::{Checked, Row, Rows};
+use table::{Row, Rows};
 
 // The longest input, and the largest buffer that a field can have lent.
 const LONGEST: usize = 65536;
@@ -261,7 +261,7 @@ impl Parts {
         let came = answers::of_checked(answer);
         let mut next = self;
         next.rows = rows;
-        if let Checked::Accepted = answer {
+        if let Ok(()) = answer {
             next.router = router;
             next.started = true;
             return Asked { came, next };

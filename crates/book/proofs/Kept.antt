@@ -1,5 +1,6 @@
 -- The law of a book alone: a fresh book has it, and every change of a book keeps it.
 use Prim.Native.Nat.{◌+◌, ℕ, ◌≤◌}
+use Rattle.std.specs.Prelude.{Option, Some, None}
 use mathlib.Core.List.{◌++◌, List, [], ◌∷◌}
 use mathlib.Core.Path.{ap, refl, sym, ◌∙◌, ◌≡◌}
 use native.Mathlib.Omega.{arith}
@@ -15,8 +16,6 @@ use Rattle.book.specs.declared.Kind.{Kind}
 use Rattle.lists.proofs.ByPlace.{few-cut}
 use Rattle.lists.proofs.Tests.{split}
 use Rattle.lists.specs.ByPlace.{cut}
-use Rattle.lists.specs.declared.Found.{Found}
-use Rattle.lists.specs.declared.Found.TheVariants.{At, Nothing}
 
 -- what is put together of 16 rows and at most 256 entries
 pub shaped_of : (ks : List Kind) (l : List Entry) → length l ≤ 256 → length ks ≡ 16 → Shaped (book_of ks l)
@@ -54,6 +53,6 @@ module _ (b : Book) (h : Shaped b) where
   pub with-file-shaped : (k r : ℕ) → Shaped (one_more b k r).next
   with-file-shaped k r = made (free_kind 0 b.kinds)
     where
-      made : (z : Found) → Shaped (created_at b k r z).next
-      made Nothing = h
-      made (At i) = table-shaped (set b.kinds i (kind k r)) (length-set b.kinds i (kind k r) ∙ h.files)
+      made : (z : Option ℕ) → Shaped (created_at b k r z).next
+      made None = h
+      made (Some i) = table-shaped (set b.kinds i (kind k r)) (length-set b.kinds i (kind k r) ∙ h.files)

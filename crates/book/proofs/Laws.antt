@@ -1,5 +1,6 @@
 -- Laws of a book: what its law tells, its searches, and a book put together.
 use Prim.Native.Nat.{◌+◌, ◌-◌, ◌<◌, suc, zero, ℕ, ◌≤◌}
+use Rattle.std.specs.Prelude.{Some, None}
 use mathlib.Core.Bool.{Bool, cond, false, true}
 use mathlib.Core.List.{◌++◌, List, [], ◌∷◌}
 use mathlib.Core.Path.{ap, sym, ◌∙◌, ◌≡◌}
@@ -20,7 +21,6 @@ use Rattle.lists.proofs.Tests.{split}
 use Rattle.lists.specs.ByPlace.{cut, place}
 use Rattle.lists.specs.Least.{least}
 use Rattle.lists.specs.Lists.{All, count}
-use Rattle.lists.specs.declared.Found.TheVariants.{At, Nothing}
 
 -- ---- what the law tells
 module _ (b : Book) (h : Shaped b) where
@@ -49,14 +49,14 @@ module _ (b : Book) (h : Shaped b) where
   suffix-end i k = drop_of_length-le (entries_of b) {i = i} (omega (arith, law-len))
 
   -- ---- a search upwards
-  pub place-hit : (q : Entry → Bool) (i : ℕ) → i < b.count → q (get_or b.entries i no_entry) ≡ true → place q i (drop i (entries_of b)) ≡ At i
+  pub place-hit : (q : Entry → Bool) (i : ℕ) → i < b.count → q (get_or b.entries i no_entry) ≡ true → place q i (drop i (entries_of b)) ≡ Some i
   place-hit q i k t = rw (suffix i k, t)
 
   pub place-miss : (q : Entry → Bool) (i : ℕ) → i < b.count → q (get_or b.entries i no_entry) ≡ false
       → place q (i + 1) (drop (i + 1) (entries_of b)) ≡ place q i (drop i (entries_of b))
   place-miss q i k t = sym (ap (place q i) (suffix i k) ∙ rw t (ap (λ (n : ℕ). place q n (drop (i + 1) (entries_of b))) (sym (add-one i))))
 
-  pub place_end : (q : Entry → Bool) (i : ℕ) → b.count ≤ i → place q i (drop i (entries_of b)) ≡ Nothing
+  pub place_end : (q : Entry → Bool) (i : ℕ) → b.count ≤ i → place q i (drop i (entries_of b)) ≡ None
   place_end q i k = rw (suffix-end i k)
 
 -- ---- a book, put together
@@ -120,7 +120,7 @@ pub fits-at : (b : Book) (area : List ℕ) (h : Lawful b area) (i : ℕ) → i <
 fits-at b area h i k = rw (← same-entry b h.shape i k) (all-at no_entry (Fits b.kinds) (entries_of b) i (omega (arith, law-len b h.shape)) h.fit)
 
 -- a found place stands in the book
-pub place_in : (b : Book) → Shaped b → (q : Entry → Bool) (j : ℕ) → place q 0 (entries_of b) ≡ At j → j < b.count
+pub place_in : (b : Book) → Shaped b → (q : Entry → Bool) (j : ℕ) → place q 0 (entries_of b) ≡ Some j → j < b.count
 place_in b h q j e = let w = place_inside q 0 (entries_of b) j e in omega (arith, w.1, law-len b h)
 
 -- the limits of a row, by its place and by its file

@@ -1,5 +1,6 @@
 -- The table of files: the row of a file, the first free one, and the law of a book with another table.
 use Prim.Native.Nat.{◌%◌, ◌+◌, ◌-◌, ◌<◌, suc, zero, ℕ, ◌≤◌}
+use Rattle.std.specs.Prelude.{Some}
 use mathlib.Core.Bool.{false, true}
 use mathlib.Core.List.{List, [], ◌∷◌}
 use mathlib.Core.Logic.{◌⊎◌, ⊎_elim}
@@ -19,7 +20,6 @@ use Rattle.book.specs.declared.Kind.{Kind}
 use Rattle.lists.proofs.ByPlace.{set_past}
 use Rattle.lists.proofs.Tests.{clash, differ, split}
 use Rattle.lists.specs.Lists.{All, count}
-use Rattle.lists.specs.declared.Found.TheVariants.{At}
 
 pub kind-none : (ks : List Kind) (f : ℕ) → length ks ≡ 16 → (f ≡ 0) ⊎ (16 < f) → no_kind ≡ kind_of ks f
 kind-none ks zero h z = refl
@@ -47,24 +47,24 @@ pub record Free (ks : List Kind) (i : ℕ) : Type 0 where
   pub inside : i < length ks
   pub free : (get_or ks i no_kind).made ≡ false
 
-free-from : (n k : ℕ) (ks : List Kind) → free_kind n ks ≡ At (n + k) → Free ks k
+free-from : (n k : ℕ) (ks : List Kind) → free_kind n ks ≡ Some (n + k) → Free ks k
 free-from n k [] e = differ (cc)
 free-from n zero (x ∷ ks) e =
     split x.made (λ t. absurd (omega (arith, after (suc n) ks (n + 0) (rw t at e)))) (λ t. record { inside = omega arith; free = t })
   where
-    after : (n : ℕ) (ks : List Kind) (j : ℕ) → free_kind n ks ≡ At j → n ≤ j
+    after : (n : ℕ) (ks : List Kind) (j : ℕ) → free_kind n ks ≡ Some j → n ≤ j
     after n [] j e = differ (cc)
-    after n (x ∷ ks) j e = split x.made (λ t. omega (arith, after (suc n) ks j (rw t at e))) (λ t. let f : At n ≡ At j = rw t at e in let m : n ≡ j = cc in omega arith)
+    after n (x ∷ ks) j e = split x.made (λ t. omega (arith, after (suc n) ks j (rw t at e))) (λ t. let f : Some n ≡ Some j = rw t at e in let m : n ≡ j = cc in omega arith)
 free-from n (suc k) (x ∷ ks) e =
     split x.made
-    (λ t. let f : free_kind (suc n) ks ≡ At (n + suc k) = rw t at e in let m : n + suc k ≡ suc n + k = omega arith in
-    let r = free-from (suc n) k ks (f ∙ ap At m) in record { inside = omega (arith, r.inside); free = r.free })
-    (λ t. let f : At n ≡ At (n + suc k) = rw t at e in let m : n ≡ n + suc k = cc in absurd (omega arith))
+    (λ t. let f : free_kind (suc n) ks ≡ Some (n + suc k) = rw t at e in let m : n + suc k ≡ suc n + k = omega arith in
+    let r = free-from (suc n) k ks (f ∙ ap Some m) in record { inside = omega (arith, r.inside); free = r.free })
+    (λ t. let f : Some n ≡ Some (n + suc k) = rw t at e in let m : n ≡ n + suc k = cc in absurd (omega arith))
 
-pub free-at : (ks : List Kind) (i : ℕ) → free_kind 0 ks ≡ At i → Free ks i
-free-at ks i e = free-from 0 i ks (e ∙ ap At (let m : i ≡ 0 + i = omega arith in m))
+pub free-at : (ks : List Kind) (i : ℕ) → free_kind 0 ks ≡ Some i → Free ks i
+free-at ks i e = free-from 0 i ks (e ∙ ap Some (let m : i ≡ 0 + i = omega arith in m))
 
-pub free-hit : (ks : List Kind) (i : ℕ) → i < length ks → (get_or ks i no_kind).made ≡ false → free_kind i (drop i ks) ≡ At i
+pub free-hit : (ks : List Kind) (i : ℕ) → i < length ks → (get_or ks i no_kind).made ≡ false → free_kind i (drop i ks) ≡ Some i
 free-hit ks i h t = rw (drop-cons ks i no_kind h, t)
 
 pub free-miss : (ks : List Kind) (i : ℕ) → i < length ks → (get_or ks i no_kind).made ≡ true → free_kind (i + 1) (drop (i + 1) ks) ≡ free_kind i (drop i ks)
@@ -88,7 +88,7 @@ fresh-law area h = lawful-of no_kinds [] area (omega arith) sixteen none_made h 
     sixteen : length no_kinds ≡ 16
     sixteen = refl
 
-pub created : (b : Book) (k r i : ℕ) → i < 16 → free_kind 0 b.kinds ≡ At i
+pub created : (b : Book) (k r i : ℕ) → i < 16 → free_kind 0 b.kinds ≡ Some i
     → ◌≡◌ {A = Created} (record { id = i % 65535 + 1; next = record { kinds = set b.kinds i (kind k r); entries = b.entries; count = b.count } }) (created_at b k r (free_kind 0 b.kinds))
 created b k r i h e =
     ap (λ (n : ℕ). record { id = n + 1; next = record { kinds = set b.kinds i (kind k r); entries = b.entries; count = b.count } }) (mod-eq_of_lt (let z : i < 65535 = omega arith in z))

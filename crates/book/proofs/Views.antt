@@ -1,8 +1,8 @@
 -- The files that a book and an area stand for: look-up, change, and what a written slot leaves as it was.
 use Prim.Native.Nat.{◌+◌, ◌<◌, suc, zero, ℕ, ◌≤◌}
+use Rattle.std.specs.Prelude.{Option, Some, None}
 use mathlib.Core.Bool.{cond, false, true}
 use mathlib.Core.List.{List, [], ◌∷◌}
-use mathlib.Core.Option.{Option, none, some}
 use mathlib.Core.Path.{ap, refl, subst, ◌∙◌, ◌≡◌}
 use native.Mathlib.Omega.{arith}
 use lib.Dec.{eqb}
@@ -36,10 +36,10 @@ module _ (h : List Record → List Record) (f : ℕ) (l l' : List Entry) (area a
 
 -- ---- look-up
 abbrev pub as_file : ℕ → Kind → List Entry → List ℕ → Option File
-as_file n k l area = cond k.made (some (file_of n k l area)) none
+as_file n k l area = cond k.made (Some (file_of n k l area)) None
 
 module _ (l : List Entry) (area : List ℕ) where
-  look-below : (f n : ℕ) (ks : List Kind) → f < n → look f (files_from n ks l area) ≡ none
+  look-below : (f n : ℕ) (ks : List Kind) → f < n → look f (files_from n ks l area) ≡ None
   look-below f n [] h = refl
   look-below f n (k ∷ ks) h =
       split k.made (λ t. rw (t, ne_eqb n f (λ e. omega arith)) (look-below f (suc n) ks (omega arith))) (λ t. rw t (look-below f (suc n) ks (omega arith)))
@@ -56,17 +56,17 @@ module _ (l : List Entry) (area : List ℕ) where
   look-view zero ks = look-below 0 1 ks (omega arith)
   look-view (suc j) ks = look-from (suc j) 1 j ks (omega arith)
 
-  pub look-made : (f : ℕ) (ks : List Kind) → (kind_of ks f).made ≡ true → look f (files_from 1 ks l area) ≡ some (file_of f (kind_of ks f) l area)
+  pub look-made : (f : ℕ) (ks : List Kind) → (kind_of ks f).made ≡ true → look f (files_from 1 ks l area) ≡ Some (file_of f (kind_of ks f) l area)
   look-made f ks t = look-view f ks ∙ rw t
 
-  pub look_none : (f : ℕ) (ks : List Kind) → (kind_of ks f).made ≡ false → look f (files_from 1 ks l area) ≡ none
+  pub look_none : (f : ℕ) (ks : List Kind) → (kind_of ks f).made ≡ false → look f (files_from 1 ks l area) ≡ None
   look_none f ks t = look-view f ks ∙ rw t
 
 -- ---- what every file has
-all-look : (P : File → Type 0) (f : ℕ) (s : List File) (g : File) → look f s ≡ some g → All P s → P g
+all-look : (P : File → Type 0) (f : ℕ) (s : List File) (g : File) → look f s ≡ Some g → All P s → P g
 all-look P f [] g e a = differ (cc)
 all-look P f (h ∷ s) g e a =
-    split (called f h) (λ t. let k : some h ≡ some g = rw t at e in let m : h ≡ g = cc in subst P m a.0) (λ t. all-look P f s g (rw t at e) a.1)
+    split (called f h) (λ t. let k : Some h ≡ Some g = rw t at e in let m : h ≡ g = cc in subst P m a.0) (λ t. all-look P f s g (rw t at e) a.1)
 
 module _ (l : List Entry) (area : List ℕ) where
   all_from : (P : File → Type 0) (n : ℕ) (ks : List Kind)

@@ -1,5 +1,5 @@
 -- The data store as the code keeps it: a book of entries by value, in order of adding, and a lent area of 256 slots; and the list of files that the two stand for.
-use Rattle.std.specs.Prelude.{◌+◌, ◌-◌, suc, zero, ℕ, ◌≤◌, Bool, cond, false, true, ◌++◌, List, [], map, ◌∷◌, ◌≡◌, eqb, ltb, drop, get_or, length, replicate, set, take}
+use Rattle.std.specs.Prelude.{◌+◌, ◌-◌, suc, zero, ℕ, ◌≤◌, Bool, cond, false, true, ◌++◌, List, [], map, ◌∷◌, ◌≡◌, eqb, ltb, drop, get_or, length, replicate, set, take, Option, Some, None}
 use Rattle.book.specs.declared.Book.{Book}
 use Rattle.book.specs.declared.Created.{Created}
 use Rattle.book.specs.declared.Entry.{Entry}
@@ -7,8 +7,6 @@ use Rattle.book.specs.declared.Kind.{Kind}
 use Rattle.files.specs.Files.{File, Record}
 use Rattle.lists.specs.Least.{same}
 use Rattle.lists.specs.Lists.{All, count, keep}
-use Rattle.lists.specs.declared.Found.{Found}
-use Rattle.lists.specs.declared.Found.TheVariants.{At, Nothing}
 use Rattle.slots.specs.Slots.{window}
 
 -- ---- the book
@@ -104,9 +102,9 @@ abbrev pub key_at : List ℕ → ℕ → List ℕ → Entry → Bool
 key_at area f key x = cond (eqb x.file f) (same (take x.keylen (window area x.slot)) key) false
 
 -- the pointer at a place that a search ended at; 0 where it ended nowhere
-abbrev pub pointer_at : List Entry → Found → ℕ
-pointer_at l Nothing = 0
-pointer_at l (At i) = (get_or l i no_entry).pointer
+abbrev pub pointer_at : List Entry → Option ℕ → ℕ
+pointer_at l None = 0
+pointer_at l (Some i) = (get_or l i no_entry).pointer
 
 -- the numbers that entries use up: slots, and pointers in a file
 abbrev pub slots_of : List Entry → List ℕ
@@ -132,16 +130,16 @@ abbrev pub is_made : Kind → Bool
 is_made k = k.made
 
 -- the first row that is not made
-abbrev pub free_kind : ℕ → List Kind → Found
-free_kind n [] = Nothing
-free_kind n (k ∷ ks) = cond k.made (free_kind (suc n) ks) (At n)
+abbrev pub free_kind : ℕ → List Kind → Option ℕ
+free_kind n [] = None
+free_kind n (k ∷ ks) = cond k.made (free_kind (suc n) ks) (Some n)
 
 abbrev pub kind : ℕ → ℕ → Kind
 kind k r = record { made = true; keymax = k; recmax = r }
 
-abbrev pub created_at : Book → ℕ → ℕ → Found → Created
-created_at b k r Nothing = record { id = 0; next = b }
-created_at b k r (At i) = record { id = i + 1; next = with_kinds b (set b.kinds i (kind k r)) }
+abbrev pub created_at : Book → ℕ → ℕ → Option ℕ → Created
+created_at b k r None = record { id = 0; next = b }
+created_at b k r (Some i) = record { id = i + 1; next = with_kinds b (set b.kinds i (kind k r)) }
 
 -- 'A new file has the lowest free identifier of 1 to 16'
 abbrev pub one_more : Book → ℕ → ℕ → Created

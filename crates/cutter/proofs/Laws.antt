@@ -1,5 +1,7 @@
 -- Laws of the cutter's definitions: what a start and a handing out answer, check by check, and what is written.
 use Prim.Native.Nat.{ℕ, ◌+◌, ◌-◌, ◌≤◌, ◌<◌}
+use Rattle.message.specs.declared.Head.{Head}
+use Rattle.std.specs.Prelude.{Result}
 use mathlib.Core.Path.{◌≡◌, refl, sym, ap, ◌∙◌}
 use mathlib.Core.Bool.{not}
 use mathlib.Core.List.{List, [], ◌∷◌, ◌++◌}
@@ -18,7 +20,6 @@ use Rattle.tapa.specs.Said.{refused, says, cutting, command, done}
 use Rattle.tapa.specs.declared.Refusal.{Refusal}
 use Rattle.tapa.specs.declared.Refusal.TheVariants.{BufferTooSmall}
 use Rattle.message.specs.Message.{head_of, part_of, DataPart}
-use Rattle.message.specs.declared.Reading.{Reading}
 use Rattle.message.proofs.Laws.{through-reading}
 use Rattle.cutter.specs.declared.Start.TheVariants.{Ready, Refused as NotReady}
 use Rattle.cutter.specs.declared.Cut.TheVariants.{Command, Done, Refused}
@@ -42,7 +43,7 @@ module _ (s : List ℕ) where
       ∷ [])
       (says cutting (get_or s 5 0 ∷ []))
   unfolding start_of
-  said-start = through-reading (λ (r : Reading). said_start (start_on r)) _ s (checks-said said_start (start_checks (head_of s)) (Ready (get_or s 5 0)))
+  said-start = through-reading (λ (r : Result Head Refusal). said_start (start_on r)) _ s (checks-said said_start (start_checks (head_of s)) (Ready (get_or s 5 0)))
 
   -- the data to cut
   cuts-part : (t : ℕ) → start_of s ≡ Ready t → to_cut s ≡ part_of s

@@ -1,13 +1,12 @@
 -- Towards the PSAM: 'Cutting. A response's data, code included, becomes commands'.
-use Rattle.std.specs.Prelude.{ℕ, ◌+◌, ◌-◌, ◌≡◌, Bool, not, cond, List, [], ◌∷◌, ◌++◌, eqb, ltb, leb, length, take, drop}
+use Rattle.std.specs.Prelude.{ℕ, ◌+◌, ◌-◌, ◌≡◌, Bool, not, cond, List, [], ◌∷◌, ◌++◌, eqb, ltb, leb, length, take, drop, Result, Ok, Err}
+use Rattle.tapa.specs.declared.Refusal.{Refusal}
 use Rattle.std.specs.Borrow.{Bor}
 use Rattle.lists.specs.Lists.{checks, onto, LiesAt}
 use Rattle.tapa.specs.Codes.{response}
 use Rattle.tapa.specs.declared.Refusal.TheVariants.{ThreadAbove7, NoResponseCode, BufferTooSmall, NotThisPartsMessage}
 use Rattle.message.specs.Message.{read_of, part_of, part_start}
 use Rattle.message.specs.declared.Head.{Head}
-use Rattle.message.specs.declared.Reading.{Reading}
-use Rattle.message.specs.declared.Reading.TheVariants.{Message, Refused as Unread}
 use Rattle.cutter.specs.declared.Start.{Start}
 use Rattle.cutter.specs.declared.Start.TheVariants.{Ready, Refused as NotReady}
 use Rattle.cutter.specs.declared.Cut.{Cut}
@@ -28,9 +27,9 @@ start_checks h =
     ∷ (ltb h.length 2, NotReady NoResponseCode)
     ∷ []
 
-abbrev pub start_on : Reading → Start
-start_on (Unread r) = NotReady r
-start_on (Message h) = checks (start_checks h) (Ready h.thread)
+abbrev pub start_on : Result Head Refusal → Start
+start_on (Err r) = NotReady r
+start_on (Ok h) = checks (start_checks h) (Ready h.thread)
 
 unfoldable pub start_of : List ℕ → Start
 start_of message = start_on (read_of message)

@@ -1,5 +1,6 @@
 -- No such build meets the contract of `route`. Each is led to the page's session: a fresh router over its three rows, and its first message.
 use Prim.Native.Nat.{ℕ}
+use Rattle.std.specs.Prelude.{Ok}
 use mathlib.Core.Path.{◌≡◌, refl, sym, ap, ◌∙◌}
 use mathlib.Core.Bool.{true}
 use mathlib.Core.List.{List, [], ◌∷◌, ◌++◌}
@@ -12,7 +13,6 @@ use Rattle.tapa.specs.declared.Refusal.{Refusal}
 use Rattle.tapa.specs.declared.Refusal.TheVariants.{TooShort}
 use Rattle.message.specs.Message.{read_of, part_of, code_of}
 use Rattle.table.specs.declared.Row.{Row}
-use Rattle.table.specs.declared.Checked.TheVariants.{Accepted}
 use Rattle.table.specs.Table.{shaped, judge_table}
 use Rattle.places.specs.Places.{waits}
 use Rattle.rules.specs.View.{View, fresh}
@@ -38,7 +38,7 @@ use Rattle.demands.proofs.Used.{start-fresh}
 abbrev lent : List Row
 lent = row 0x0202 true ∷ row 0x0001 true ∷ row 0x0100 true ∷ []
 
-accepted : judge_table lent ≡ Accepted
+accepted : judge_table lent ≡ Ok tt
 unfolding judge_table shaped category_of sub_address_of multi
 accepted = refl
 

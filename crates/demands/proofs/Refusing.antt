@@ -1,9 +1,10 @@
 -- Demand 1, of refusals: what each contract leaves as it was.
 use Prim.Native.Nat.{ℕ, ◌-◌, ◌≤◌, ◌<◌}
+use Rattle.message.specs.declared.Head.{Head}
+use Rattle.std.specs.Prelude.{Result, Ok, Err, ⊤, Option, Some, None}
 use mathlib.Core.Path.{◌≡◌, refl, sym, ap, ◌∙◌}
 use mathlib.Core.Bool.{Bool, true, false, cond}
 use mathlib.Core.List.{List}
-use mathlib.Core.Option.{Option, none, some}
 use lib.Dec.{ltb}
 use lib.ListN.{length, get_or}
 use borrow.Author.Tests.{lt-ltb, le-ltb}
@@ -12,12 +13,7 @@ use Rattle.lists.proofs.Tests.{split, differ}
 use Rattle.tapa.specs.declared.Refusal.{Refusal}
 use Rattle.tapa.specs.declared.Refusal.TheVariants.{TooShort, TooLong, FewerThanAnnounced, NotInTable, ThreadAbove7, NoResponseCode, StrayResponse, WrongAsker, BufferTooSmall, EventCannotBeTaken, RowCountOrShape, Repeat, TooManyMulti, NothingToGiveUp, NotThisPartsMessage, StandsInAWait, NoSourceKept, StatusNotUsable, MoreThanAnnounced, HoldsAQuestion}
 use Rattle.tapa.specs.Refusals.{number_of}
-use Rattle.message.specs.declared.Reading.{Reading}
-use Rattle.message.specs.declared.Reading.TheVariants as reading
-use Rattle.message.specs.declared.Writing.{Writing}
-use Rattle.message.specs.declared.Writing.TheVariants as writing
 use Rattle.message.specs.Message.{read_of, part_of, message_of, writing_of, after_writing}
-use Rattle.table.specs.declared.Checked.{Checked as Judged}
 use Rattle.table.specs.Table.{kept_by, rows_read}
 use Rattle.rules.specs.declared.Outcome.{Outcome}
 use Rattle.rules.specs.declared.Outcome.TheVariants as outcome
@@ -27,9 +23,6 @@ use Rattle.router.specs.declared.Routed.{Routed}
 use Rattle.router.specs.Router as router
 use Rattle.router.proofs.States.{determined}
 use Rattle.start.specs.Start.{fresh_over}
-use Rattle.replies.specs.declared.Answer.TheVariants as answer
-use Rattle.replies.specs.declared.Checked.{Checked}
-use Rattle.replies.specs.declared.Checked.TheVariants.{Passed, Failed}
 use Rattle.replies.specs.Replies.{response_to, answer_of, answer_after}
 use Rattle.queue.specs.declared.Queue.{Queue}
 use Rattle.queue.specs.Places as queue
@@ -84,12 +77,12 @@ numbered HoldsAQuestion = refl
 
 -- ---- the writer
 
-unwritten : (w : Writing) (message before after : List ℕ) → after ≡ after_writing w message before → (k : Refusal) → w ≡ writing.Refused k → after ≡ before
-unwritten w message before after e k r = e ∙ ap (λ (x : Writing). after_writing x message before) r
+unwritten : (w : Result ℕ Refusal) (message before after : List ℕ) → after ≡ after_writing w message before → (k : Refusal) → w ≡ Err k → after ≡ before
+unwritten w message before after e k r = e ∙ ap (λ (x : Result ℕ Refusal). after_writing x message before) r
 
-refused-reply : (w : Writing) (k : Refusal) → answer_after w ≡ answer.Refused k → w ≡ writing.Refused k
-refused-reply (writing.Written n) k e = differ (cc)
-refused-reply (writing.Refused r) k e = ap writing.Refused (cc)
+refused-reply : (w : Result ℕ Refusal) (k : Refusal) → answer_after w ≡ Err k → w ≡ Err k
+refused-reply (Ok n) k e = differ (cc)
+refused-reply (Err r) k e = ap Err (cc)
 
 -- ---- the router
 
@@ -105,9 +98,9 @@ replaced-stays o r g out x k e =
 
 -- ---- the event queue and the data store: what was obeyed is no refusal
 
-not-refused : (part : Option (List ℕ)) (k : Refusal) → answer_of part ≡ answer.Refused k → ⊥
-not-refused none k e = differ (cc)
-not-refused (some part) k e = differ (cc)
+not-refused : (part : Option (List ℕ)) (k : Refusal) → answer_of part ≡ Err k → ⊥
+not-refused None k e = differ (cc)
+not-refused (Some part) k e = differ (cc)
 
 module _ (q : Queue) (message before : List ℕ) where
   pub record Same (w : events.Result) (start : ℕ) : Type 0 where
@@ -115,18 +108,18 @@ module _ (q : Queue) (message before : List ℕ) where
     pub reply : w.reply ≡ before
     pub begins : start ≡ queue.start_of q
 
-  queue-same : (k : Refusal) → (events.handled (queue.events_of q) message before).answer ≡ answer.Refused k
+  queue-same : (k : Refusal) → (events.handled (queue.events_of q) message before).answer ≡ Err k
       → Same (events.handled (queue.events_of q) message before) (start_handled (queue.events_of q) (queue.start_of q) message before)
   unfolding events.handled start_handled
   queue-same k e = go (events.checked (length before) message) e
     where
-      go : (c : Checked) → (events.obeys c (queue.events_of q) (part_of message) before).answer ≡ answer.Refused k
+      go : (c : Result Head Refusal) → (events.obeys c (queue.events_of q) (part_of message) before).answer ≡ Err k
           → Same (events.obeys c (queue.events_of q) (part_of message) before) (start_obeyed c (queue.events_of q) (part_of message) (queue.start_of q))
-      go (Failed r) f = record { events = refl; reply = refl; begins = refl }
-      go (Passed h) f = absurd (not-refused (events.carried (events.judge (queue.events_of q) (events.command_of h.kind (part_of message)))) k f)
+      go (Err r) f = record { events = refl; reply = refl; begins = refl }
+      go (Ok h) f = absurd (not-refused (events.carried (events.judge (queue.events_of q) (events.command_of h.kind (part_of message)))) k f)
 
 queue-stays : (q : Queue) → queue.Lawful q → (message before after : List ℕ) (h : handled.Handled) → HandlingAt q message before after h
-    → (k : Refusal) → h.answer ≡ answer.Refused k → (h.next ≡ q) × (after ≡ before)
+    → (k : Refusal) → h.answer ≡ Err k → (h.next ≡ q) × (after ≡ before)
 queue-stays q g message before after h x k e =
     let s = queue-same q message before k (sym x.handling.answer ∙ e) in (
       one-queue h.next q (queue.events_of q) (queue.start_of q)
@@ -136,15 +129,15 @@ queue-stays q g message before after h x k e =
     )
 
 store-stays : (b : Book) (area area' message before after : List ℕ) (h : done.Handled) → store.Handling (store.handled b area message before) area' after h
-    → (k : Refusal) → h.answer ≡ answer.Refused k → (h.next ≡ b) × (area' ≡ area) × (after ≡ before)
+    → (k : Refusal) → h.answer ≡ Err k → (h.next ≡ b) × (area' ≡ area) × (after ≡ before)
 unfolding store.handled
 store-stays b area area' message before after h x k e = go (store.checked (length before) message) (sym x.answer ∙ e) x.next x.area' x.reply'
   where
-    go : (c : Checked) → (store.obeys c (part_of message) b area before).answer ≡ answer.Refused k
+    go : (c : Result Head Refusal) → (store.obeys c (part_of message) b area before).answer ≡ Err k
         → h.next ≡ (store.obeys c (part_of message) b area before).book → area' ≡ (store.obeys c (part_of message) b area before).area
         → after ≡ (store.obeys c (part_of message) b area before).reply → (h.next ≡ b) × (area' ≡ area) × (after ≡ before)
-    go (Failed r) f n a m = (n, a, m)
-    go (Passed p) f n a m = absurd (not-refused (some (store.deed_of p.kind (part_of message) b area).part) k f)
+    go (Err r) f n a m = (n, a, m)
+    go (Ok p) f n a m = absurd (not-refused (Some (store.deed_of p.kind (part_of message) b area).part) k f)
 
 -- ---- the cutter
 
@@ -210,9 +203,9 @@ not-joined j piece before after r x k e =
       at-9000 = λ room l. x.buffer ∙ last_written j piece before room k a l;
     }
 
-not-kept : (r : Reading) (c : Keeping) (j : Joiner) (k : Refusal) → c ≡ NotKept k → keeper_on r c j ≡ j
-not-kept (reading.Message h) c j k e = ap (λ (x : Keeping). keeper_on (reading.Message h) x j) e
-not-kept (reading.Refused z) c j k e = refl
+not-kept : (r : Result Head Refusal) (c : Keeping) (j : Joiner) (k : Refusal) → c ≡ NotKept k → keeper_on r c j ≡ j
+not-kept (Ok h) c j k e = ap (λ (x : Keeping). keeper_on (Ok h) x j) e
+not-kept (Err z) c j k e = refl
 
 -- ---- all of them
 
@@ -222,7 +215,7 @@ refusing = record {
   numbered = numbered;
   write = λ d s kind t part before after w x k e. unwritten (writing_of part before) (message_of d s kind t part) before after x.buffer k (sym x.answer ∙ e);
   reply = λ h part before after a x k e. unwritten (writing_of part before) (response_to h part) before after x.reply k (refused-reply (writing_of part before) k (sym x.answer ∙ e));
-  start = λ rows k e. ap (λ (c : Judged). fresh_over (kept_by c (rows_read rows))) e;
+  start = λ rows k e. ap (λ (c : Result ⊤ Refusal). fresh_over (kept_by c (rows_read rows))) e;
   route = λ r g message before after out x. router-stays _ r g before after out x;
   give-up = λ r g thread address before after out x. router-stays _ r g before after out x;
   replaced = λ r g address out x. replaced-stays _ r g out x;
@@ -244,7 +237,7 @@ refusing = record {
   get-next = λ thread before after w x k e. x.buffer ∙ not-asked (ltb (length before) 5) thread before k (sym x.answer ∙ e);
 }
   where
-    not-asked : (b : Bool) (thread : ℕ) (before : List ℕ) (k : Refusal) → cond b (writing.Refused BufferTooSmall) (writing.Written 5) ≡ writing.Refused k
+    not-asked : (b : Bool) (thread : ℕ) (before : List ℕ) (k : Refusal) → cond b (Err BufferTooSmall) (Ok 5) ≡ Err k
         → cond b before (onto (get_next_bytes thread) before) ≡ before
     not-asked true thread before k e = refl
     not-asked false thread before k e = differ (cc)

@@ -1,12 +1,10 @@
 -- Demand 2, of messages: reader and writer undo each other, a response's commands carry its data to the PSAM, and what the PSAM sends in pieces is
 -- joined to the message that was cut.
-use Rattle.std.specs.Prelude.{ℕ, ◌+◌, ◌≤◌, ◌≡◌, true, false, List, [], ◌∷◌, ◌++◌, length, take, get_or}
+use Rattle.std.specs.Prelude.{ℕ, ◌+◌, ◌≤◌, ◌≡◌, true, false, List, [], ◌∷◌, ◌++◌, length, take, get_or, Result, Ok}
+use Rattle.tapa.specs.declared.Refusal.{Refusal}
 use Rattle.std.specs.Borrow.{Bor}
 use Rattle.lists.specs.Lists.{All, Bytes, count}
 use Rattle.message.specs.declared.Head.{Head}
-use Rattle.message.specs.declared.Reading.TheVariants.{Message}
-use Rattle.message.specs.declared.Writing.{Writing}
-use Rattle.message.specs.declared.Writing.TheVariants.{Written}
 use Rattle.message.specs.Message.{read_of, part_of, message_of, Wrote}
 use Rattle.cutter.specs.declared.Begun.{Begun}
 use Rattle.cutter.specs.Cutting.{to_cut, Begins}
@@ -16,12 +14,12 @@ use Rattle.joiner.specs.Sending.{together, Small, response_sent, Delivers}
 
 pub record Carrying : Type 0 where
   -- 'Each undoes the other.' What was written reads as the same fields and the same data, whatever stood in the buffer
-  pub written_read : (destination source kind thread : ℕ) (part before after : List ℕ) (n : ℕ) → Wrote destination source kind thread part before after (Written n)
-      → (read_of (take n after) ≡ Message (record { destination = destination; source = source; kind = kind; thread = thread; length = length part }))
+  pub written_read : (destination source kind thread : ℕ) (part before after : List ℕ) (n : ℕ) → Wrote destination source kind thread part before after (Ok n)
+      → (read_of (take n after) ≡ Ok (record { destination = destination; source = source; kind = kind; thread = thread; length = length part }))
       × (part_of (take n after) ≡ part)
   -- and what was read is written as the same bytes
-  pub read-written : (s : List ℕ) (h : Head) → Bytes s → read_of s ≡ Message h → (before after : List ℕ) (w : Writing) → length s ≤ length before
-      → Wrote h.destination h.source h.kind h.thread (part_of s) before after w → (w ≡ Written (length s)) × (take (length s) after ≡ s)
+  pub read-written : (s : List ℕ) (h : Head) → Bytes s → read_of s ≡ Ok h → (before after : List ℕ) (w : Result ℕ Refusal) → length s ≤ length before
+      → Wrote h.destination h.source h.kind h.thread (part_of s) before after w → (w ≡ Ok (length s)) × (take (length s) after ≡ s)
   -- cutting: the data of the commands that a cutter hands out, one after the other, are 'a response's data, code included'; 'all but the last have P2
   -- '01' and 248 bytes; the last has P2 '00' and 1 to 248'
   pub cut : (message : Bor (List ℕ)) (b : Begun) (buffers : List (List ℕ)) → Begins message b → command_count (length (to_cut message.now)) ≤ count long_enough buffers

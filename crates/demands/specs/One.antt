@@ -3,10 +3,9 @@
 -- A contract is an equation between the answer (or a lent buffer at the end) and a definition, or a relation that has a name. Of equations it
 -- is shown once for all (proofs/One.antt, `equations`). Of the relations it is this record: a field a function, over the very name that the
 -- function ensures. docs/PROMISES.md has every public function with its theorem.
-use Rattle.std.specs.Prelude.{ℕ, ◌≡◌, List, Bool}
+use Rattle.std.specs.Prelude.{ℕ, ◌≡◌, List, Bool, Option}
 use Rattle.std.specs.Borrow.{Bor, MutBor}
 use Rattle.message.specs.declared.Head.{Head}
-use Rattle.message.specs.declared.Coded.{Coded}
 use Rattle.message.specs.Message.{Wrote, DataPart}
 use Rattle.table.specs.Table.{Opened}
 use Rattle.place.specs.declared.Place.{Place}
@@ -77,7 +76,7 @@ pub record OneResult : Type 0 where
       → OnMessage (lent cells c) n (lent list l) k message (lent reply b) s
       → OnMessage (lent cells c') n (lent list l') k message (lent reply b') s'
       → (s ≡ s') × (l.now ≡ l'.now) × (c.now ≡ c'.now) × (b.now ≡ b'.now)
-  pub on-response : (list l l' : MutBor (List ℕ)) (k : ℕ) (s s' : Step) (cells c c' : MutBor (List ℕ)) (n : ℕ) (h : Head) (coded : Coded)
+  pub on-response : (list l l' : MutBor (List ℕ)) (k : ℕ) (s s' : Step) (cells c c' : MutBor (List ℕ)) (n : ℕ) (h : Head) (coded : Option ℕ)
       → OnResponse (lent cells c) n (lent list l) k h coded s
       → OnResponse (lent cells c') n (lent list l') k h coded s'
       → (s ≡ s') × (l.now ≡ l'.now) × (c.now ≡ c'.now)

@@ -1,23 +1,18 @@
 -- Demand 1, of refusals: each has its number, and 'a refusal returns its number only and changes nothing, save the joiner's count and written piece as
 -- said'. Over the very relations that the functions ensure.
-use Rattle.std.specs.Prelude.{ℕ, ◌-◌, ◌≤◌, ◌<◌, ◌≡◌, List, [], ◌∷◌, ◌++◌, length, take, get_or}
+use Rattle.std.specs.Prelude.{ℕ, ◌-◌, ◌≤◌, ◌<◌, ◌≡◌, List, [], ◌∷◌, ◌++◌, length, take, get_or, Option, Result, Err}
 use Rattle.lists.specs.Lists.{onto}
 use Rattle.tapa.specs.declared.Refusal.{Refusal}
 use Rattle.tapa.specs.declared.Refusal.TheVariants.{TooShort, TooLong, FewerThanAnnounced, NotInTable, ThreadAbove7, NoResponseCode, StrayResponse, WrongAsker, BufferTooSmall, EventCannotBeTaken, RowCountOrShape, Repeat, TooManyMulti, NothingToGiveUp, NotThisPartsMessage, StandsInAWait, NoSourceKept, StatusNotUsable, MoreThanAnnounced, HoldsAQuestion}
 use Rattle.tapa.specs.Refusals.{number_of}
 use Rattle.message.specs.declared.Head.{Head}
-use Rattle.message.specs.declared.Writing.{Writing}
-use Rattle.message.specs.declared.Writing.TheVariants as writing
 use Rattle.message.specs.Message.{Wrote}
-use Rattle.table.specs.declared.Checked.TheVariants as table
 use Rattle.table.specs.declared.Row.{Row}
 use Rattle.rules.specs.declared.Outcome.TheVariants as outcome
 use Rattle.router.specs.declared.Router.{Router}
 use Rattle.router.specs.declared.Routed.{Routed}
 use Rattle.router.specs.Router as router
 use Rattle.start.specs.Start.{blank, start_of}
-use Rattle.replies.specs.declared.Answer.{Answer}
-use Rattle.replies.specs.declared.Answer.TheVariants as answer
 use Rattle.replies.specs.Replies.{Replies}
 use Rattle.queue.specs.declared.Queue.{Queue}
 use Rattle.queue.specs.Places as queue
@@ -81,11 +76,11 @@ pub record Refusing : Type 0 where
   -- every refusal stands in the page's table with its number, and in that line
   pub numbered : (r : Refusal) → get_or refusal_table (number_of r - 1) (0, r) ≡ (number_of r, r)
   -- message: the writer, and a reply
-  pub write : (destination source kind thread : ℕ) (part before after : List ℕ) (w : Writing) → Wrote destination source kind thread part before after w
-      → (k : Refusal) → w ≡ writing.Refused k → after ≡ before
-  pub reply : (h : Head) (part before after : List ℕ) (a : Answer) → Replies h part before after a → (k : Refusal) → a ≡ answer.Refused k → after ≡ before
+  pub write : (destination source kind thread : ℕ) (part before after : List ℕ) (w : Result ℕ Refusal) → Wrote destination source kind thread part before after w
+      → (k : Refusal) → w ≡ Err k → after ≡ before
+  pub reply : (h : Head) (part before after : List ℕ) (a : Result (Option ℕ) Refusal) → Replies h part before after a → (k : Refusal) → a ≡ Err k → after ≡ before
   -- the table: a refused one leaves a router over no rows
-  pub start : (rows : List Row) (k : Refusal) → (start_of rows).answer ≡ table.Refused k → (start_of rows).router ≡ blank
+  pub start : (rows : List Row) (k : Refusal) → (start_of rows).answer ≡ Err k → (start_of rows).router ≡ blank
   -- the router
   pub route : (r : Router) → router.Lawful r → (message before after : List ℕ) (out : Routed) → router.Routes r message before after out → Stays r before after out
   pub give-up : (r : Router) → router.Lawful r → (thread address : ℕ) (before after : List ℕ) (out : Routed) → router.GivesUp r thread address before after out
@@ -94,9 +89,9 @@ pub record Refusing : Type 0 where
       → (k : Refusal) → out.outcome ≡ outcome.Refused k → out.next ≡ r
   -- the event queue and the data store
   pub handle : (q : Queue) → queue.Lawful q → (message before after : List ℕ) (h : events.Handled) → HandlingAt q message before after h
-      → (k : Refusal) → h.answer ≡ answer.Refused k → (h.next ≡ q) × (after ≡ before)
+      → (k : Refusal) → h.answer ≡ Err k → (h.next ≡ q) × (after ≡ before)
   pub store-handle : (b : Book) (area area' message before after : List ℕ) (h : store.Handled) → Handling (handled b area message before) area' after h
-      → (k : Refusal) → h.answer ≡ answer.Refused k → (h.next ≡ b) × (area' ≡ area) × (after ≡ before)
+      → (k : Refusal) → h.answer ≡ Err k → (h.next ≡ b) × (area' ≡ area) × (after ≡ before)
   -- the cutter: 'the place kept'
   pub cut-next : (part : List ℕ) (thread at : ℕ) (before after : List ℕ) (h : Handed) → HandsOut part thread at before after h
       → (k : Refusal) → h.cut ≡ cut.Refused k → (h.next ≡ at) × (after ≡ before)
@@ -107,4 +102,4 @@ pub record Refusing : Type 0 where
   pub join : (j : Joiner) (piece before after : List ℕ) (r : Joined) → Joins j piece before after r
       → (k : Refusal) → r.answer ≡ joining.Refused k → NotJoined j piece before after r.next
   pub keep : (j : Joiner) (message : List ℕ) (k : Refusal) → (kept_of j message).answer ≡ NotKept k → (kept_of j message).next ≡ j
-  pub get-next : (thread : ℕ) (before after : List ℕ) (w : Writing) → Asks thread before after w → (k : Refusal) → w ≡ writing.Refused k → after ≡ before
+  pub get-next : (thread : ℕ) (before after : List ℕ) (w : Result ℕ Refusal) → Asks thread before after w → (k : Refusal) → w ≡ Err k → after ≡ before

@@ -1,13 +1,13 @@
 -- Demand 2, of the data store: a run as the contract of `store_answers::handle` tells it. It begins with a fresh book and an area of the right length, and
 -- goes on with messages, each on the book and the area that the last one left. The history lists the messages with the reply buffers that were
 -- lent, and what came of each.
-use Rattle.std.specs.Prelude.{ℕ, List, [], ◌∷◌, ◌≡◌, length}
+use Rattle.std.specs.Prelude.{ℕ, List, [], ◌∷◌, ◌≡◌, length, Option, Result}
+use Rattle.tapa.specs.declared.Refusal.{Refusal}
 use Rattle.book.specs.Book.{Lawful, book_of, no_kinds, view_of}
 use Rattle.book.specs.declared.Book.{Book}
 use Rattle.files.specs.Files.{File}
 use Rattle.files.specs.Sound.{Sound}
 use Rattle.lists.specs.Lists.{Bytes}
-use Rattle.replies.specs.declared.Answer.{Answer}
 use Rattle.store.specs.Plain.{Told, told_of}
 use Rattle.store.specs.Store.{Handling, handled}
 use Rattle.store.specs.declared.Handled.{Handled}
@@ -16,7 +16,7 @@ use Rattle.store.specs.declared.Handled.{Handled}
 pub record Exchange : Type 0 where
   pub message : List ℕ
   pub before : List ℕ
-  pub answer : Answer
+  pub answer : Result (Option ℕ) Refusal
   pub after : List ℕ
 
 -- the newest exchange stands first

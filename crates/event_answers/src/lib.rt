@@ -14,12 +14,12 @@ ghost use Rattle.events.specs.Ring.{start_after, handled_in, HandlingAt};
 use events::{Command, Handled, Outcome, Step};
 use message::Head;
 use queue::{Event, Queue, Search, Sought, Stretch};
-use replies::{Answer, Checked};
+use tapa::Refusal;
 
 // ---- the reply
 
 // A response that carries a found event and the code of success.
-fn reply_event(reply: &mut [u8], head: Head, event: Event) -> Answer
+fn reply_event(reply: &mut [u8], head: Head, event: Event) -> Result<Option<usize>, Refusal>
     requires { 13 ≤ length reply.old }
     ensures { Answers head (carried (Outcome.Taken event)) reply.old reply.new result }
 {
@@ -34,13 +34,13 @@ fn reply_event(reply: &mut [u8], head: Head, event: Event) -> Answer
 }
 
 // The reply that an outcome has, if any.
-fn answered(reply: &mut [u8], head: Head, outcome: Outcome) -> Answer
+fn answered(reply: &mut [u8], head: Head, outcome: Outcome) -> Result<Option<usize>, Refusal>
     requires { 13 ≤ length reply.old }
     ensures { Answers head (carried outcome) reply.old reply.new result }
 {
     match outcome {
-        Outcome::Added(_) => Answer::Nothing,
-        Outcome::Ignored => Answer::Nothing,
+        Outcome::Added(_) => Ok(None),
+        Outcome::Ignored => Ok(None),
         Outcome::Taken(event) => reply_event(reply, head, event),
         Outcome::Emptied => replies::with_code(reply, head, tapa::SUCCESSFUL),
         Outcome::Coded(code) => replies::with_code(reply, head, code),
@@ -126,11 +126,11 @@ fn serve(places: &mut [u32; 100], stretch: Stretch, message: &[u8], reply: &mut 
     ensures { HandlingAt (queue_of places.old stretch) message.now reply.old reply.new (handled_in places.new result) }
 {
     match event_asked::check(message, reply.len()) {
-        Checked::Failed(refusal) => Step {
-            answer: Answer::Refused(refusal),
+        Err(refusal) => Step {
+            answer: Err(refusal),
             stretch,
         },
-        Checked::Passed(head) => {
+        Ok(head) => {
             let command = event_asked::read_command(head.kind, message_reader::data_part(message));
             let outcome = judge(places, stretch, command);
             let after = apply(places, stretch, outcome);

@@ -10,7 +10,6 @@ ghost use Rattle.events.specs.Events.{elsewhere, checked, event_at, command_of};
 use events::Command;
 use message::Head;
 use queue::{Event, Search};
-use replies::Checked;
 use tapa::Refusal;
 
 // ---- the checks
@@ -28,16 +27,16 @@ fn is_elsewhere(head: Head) -> bool
 }
 
 // The checks in their order; `room` is the length of the reply buffer, which takes the longest reply.
-pub fn check(message: &[u8], room: usize) -> Checked
+pub fn check(message: &[u8], room: usize) -> Result<Head, Refusal>
     ensures { result ≡ checked room message.now }
 {
     match replies::open(message, room, 13) {
-        Checked::Failed(refusal) => Checked::Failed(refusal),
-        Checked::Passed(head) => {
+        Err(refusal) => Err(refusal),
+        Ok(head) => {
             if is_elsewhere(head) {
-                return Checked::Failed(Refusal::NotThisPartsMessage);
+                return Err(Refusal::NotThisPartsMessage);
             }
-            Checked::Passed(head)
+            Ok(head)
         }
     }
 }

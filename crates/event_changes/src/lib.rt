@@ -11,7 +11,6 @@ ghost use Rattle.lists.specs.Lists.{without, without_at};
 ghost use Rattle.queue.specs.Events.{added, meets, like_of};
 ghost use Rattle.queue.specs.Places.{place_from, queue_of, events_in, Lawful, start_without, HoldsAt};
 
-use lists::Found;
 use queue::{Event, Search, Sought, Stretch};
 
 // One event more, where there is room; a full queue stays as it is.
@@ -84,8 +83,8 @@ pub fn take(places: &mut [u32; 100], stretch: Stretch, event: Event) -> Stretch
         return drop_oldest(places, stretch);
     }
     match event_ring::find(places, stretch, search) {
-        Found::Nothing => stretch,
-        Found::At(newer) => close_gap(places, stretch, newer),
+        None => stretch,
+        Some(newer) => close_gap(places, stretch, newer),
     }
 }
 

@@ -9,7 +9,6 @@ ghost use Rattle.lists.specs.Lists.{first, find};
 ghost use Rattle.queue.specs.Events.{most, oldest, meets, sought};
 ghost use Rattle.queue.specs.Places.{queue_of, events_in, Lawful, HoldsAt};
 
-use lists::Found;
 use queue::{Queue, Search, Sought, Stretch};
 
 // A queue that holds nothing; its ring begins at place 0.
@@ -44,7 +43,7 @@ pub fn oldest(places: &[u32; 100], stretch: Stretch) -> Sought
 }
 
 // The number of the oldest event that meets a search: how many are newer than it.
-pub fn find(places: &[u32; 100], stretch: Stretch, search: Search) -> Found
+pub fn find(places: &[u32; 100], stretch: Stretch, search: Search) -> Option<usize>
     requires { Lawful (queue_of places.now stretch) }
     ensures { result ≡ find (meets search) (events_in places.now stretch) }
 {
@@ -53,11 +52,11 @@ pub fn find(places: &[u32; 100], stretch: Stretch, search: Search) -> Found
     while 0 < newer {
         newer -= 1;
         if queue::is_met(search, queue::unpack(places[place])) {
-            return Found::At(newer);
+            return Some(newer);
         }
         place = queue::place_from(place, 1);
     }
-    Found::Nothing
+    None
 }
 
 // The oldest event that meets a search.
@@ -66,8 +65,8 @@ pub fn oldest_met(places: &[u32; 100], stretch: Stretch, search: Search) -> Soug
     ensures { result ≡ sought (first (meets search) (events_in places.now stretch)) }
 {
     match find(places, stretch, search) {
-        Found::Nothing => Sought::Nothing,
-        Found::At(newer) => {
+        None => Sought::Nothing,
+        Some(newer) => {
             let place = queue::place_from(stretch.start, stretch.count - 1 - newer);
             Sought::One(queue::unpack(places[place]))
         }

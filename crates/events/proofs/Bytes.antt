@@ -1,9 +1,9 @@
 -- The page's types, lengths and codes, written out: what a data part asks, what is decided, and what a reply carries.
 use Prim.Native.Nat.{ℕ, ◌+◌, ◌*◌, ◌/◌, ◌%◌, ◌≤◌, ◌<◌}
+use Rattle.std.specs.Prelude.{Some, None}
 use mathlib.Core.Path.{◌≡◌, refl}
 use mathlib.Core.Bool.{true, false, cond}
 use mathlib.Core.List.{List, [], ◌∷◌, ◌++◌}
-use mathlib.Core.Option.{none, some}
 use lib.Dec.{eqb}
 use lib.ListN.{length, get_or}
 use borrow.Author.Tests.{lt-ltb, le-ltb}
@@ -70,7 +70,7 @@ module _ (es : List Event) (e : Event) where
 
 -- ---- what a reply carries: 'type, location, '0000' (length '0005'); all others only the code'
 
-pub carries : (e : Event) (code : ℕ) → (carried (Taken e) ≡ some (e.kind ∷ e.location / 256 ∷ e.location % 256 ∷ 0x00 ∷ 0x00 ∷ []))
-    × (carried Emptied ≡ some (0x00 ∷ 0x00 ∷ [])) × (carried (Coded code) ≡ some (code / 256 ∷ code % 256 ∷ []))
-    × (carried (Added e) ≡ none) × (carried Ignored ≡ none)
+pub carries : (e : Event) (code : ℕ) → (carried (Taken e) ≡ Some (e.kind ∷ e.location / 256 ∷ e.location % 256 ∷ 0x00 ∷ 0x00 ∷ []))
+    × (carried Emptied ≡ Some (0x00 ∷ 0x00 ∷ [])) × (carried (Coded code) ≡ Some (code / 256 ∷ code % 256 ∷ []))
+    × (carried (Added e) ≡ None) × (carried Ignored ≡ None)
 carries e code = (refl, refl, refl, refl, refl)

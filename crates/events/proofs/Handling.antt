@@ -1,5 +1,6 @@
 -- Laws of all that a message comes to.
 use Prim.Native.Nat.{ℕ, ◌+◌, ◌≤◌}
+use Rattle.std.specs.Prelude.{Option, Result, Ok, Err}
 use mathlib.Core.Path.{◌≡◌, refl}
 use mathlib.Core.Bool.{not, ◌||◌}
 use mathlib.Core.List.{List, [], ◌∷◌}
@@ -12,30 +13,26 @@ use Rattle.tapa.specs.Said.{Said, refused}
 use Rattle.tapa.specs.declared.Refusal.{Refusal}
 use Rattle.message.specs.declared.Head.{Head}
 use Rattle.message.specs.Message.{part_of}
-use Rattle.replies.specs.declared.Answer.{Answer}
-use Rattle.replies.specs.declared.Answer.TheVariants.{Refused}
 use Rattle.replies.specs.Replies.{answer_of, Answers}
 use Rattle.replies.specs.Said.{said_answer}
 use Rattle.replies.proofs.Checking.{passed-room as least-room, through-checking}
 use Rattle.queue.specs.declared.Event.{Event}
 use Rattle.queue.specs.declared.Queue.{Queue}
 use Rattle.queue.specs.Places.{events_of, Lawful, start_of, HoldsAt}
-use Rattle.replies.specs.declared.Checked.{Checked}
-use Rattle.replies.specs.declared.Checked.TheVariants.{Passed, Failed}
 use Rattle.events.specs.declared.Outcome.{Outcome}
 use Rattle.events.specs.Events.{elsewhere, checked, command_of, judge, apply, carried, obeys, handled}
 use Rattle.events.specs.Ring.{start_after, start_handled, HandlingAt}
 
-pub passed-room : (room : ℕ) (message : List ℕ) (h : Head) → checked room message ≡ Passed h → 13 ≤ room
+pub passed-room : (room : ℕ) (message : List ℕ) (h : Head) → checked room message ≡ Ok h → 13 ≤ room
 passed-room room message h e = least-room elsewhere 13 room message h e
 
 module _ (q : Queue) (message before : List ℕ) where
-  pub refusing : (r : Refusal) → Lawful q → checked (length before) message ≡ Failed r
-      → HandlingAt q message before before (record { answer = Refused r; next = q })
+  pub refusing : (r : Refusal) → Lawful q → checked (length before) message ≡ Err r
+      → HandlingAt q message before before (record { answer = Err r; next = q })
   unfolding handled start_handled
   refusing r w e = record { handling = rw e (record { answer = refl; next = record { events = refl; law = w }; reply = refl }); begins = rw e }
 
-  pub obeyed : (h : Head) (o : Outcome) (a : Answer) (next : Queue) (after : List ℕ) → checked (length before) message ≡ Passed h
+  pub obeyed : (h : Head) (o : Outcome) (a : Result (Option ℕ) Refusal) (next : Queue) (after : List ℕ) → checked (length before) message ≡ Ok h
       → o ≡ judge (events_of q) (command_of h.kind (part_of message)) → HoldsAt next (apply o (events_of q)) (start_after o (events_of q) (start_of q)) → Answers h (carried o) before after a
       → HandlingAt q message before after (record { answer = a; next = next })
   unfolding handled start_handled
@@ -58,5 +55,5 @@ pub said-answer : (es : List Event) (s reply : List ℕ) → said_answer (handle
 unfolding handled elsewhere
 said-answer es s reply = through-checking elsewhere 13 (length reply) s said
   where
-    said : Checked → Said
+    said : Result Head Refusal → Said
     said c = said_answer (obeys c es (part_of s) reply).answer

@@ -1,8 +1,8 @@
 -- Laws of what is decided: where a queue is empty, and which event is taken.
 use mathlib.Core.Path.{◌≡◌, refl}
+use Rattle.std.specs.Prelude.{Some, None}
 use mathlib.Core.Bool.{true, false}
 use mathlib.Core.List.{List, [], ◌∷◌}
-use mathlib.Core.Option.{none, some}
 use Rattle.lists.specs.Lists.{first, without}
 use Rattle.queue.specs.declared.Event.{Event}
 use Rattle.queue.specs.declared.Search.{Search}
@@ -35,7 +35,7 @@ unfolding judge
 find-empty s k = rw k
 
 -- a known type, events, and none that meets it
-pub find-unmet : (s : Search) (e : Event) (es : List Event) → known_search s.by ≡ true → first (meets s) (e ∷ es) ≡ none → judge (e ∷ es) (Find s) ≡ Coded 0xFF73
+pub find-unmet : (s : Search) (e : Event) (es : List Event) → known_search s.by ≡ true → first (meets s) (e ∷ es) ≡ None → judge (e ∷ es) (Find s) ≡ Coded 0xFF73
 unfolding judge
 find-unmet s e es k n = rw (k, n)
 
@@ -47,6 +47,6 @@ unfolding judge apply
 get-takes-oldest e es = rw (like-itself e)
 
 -- 'Find takes the oldest that meets its search type'
-pub find-takes-oldest : (s : Search) (e : Event) (es : List Event) → first (meets s) es ≡ some e → apply (Taken e) es ≡ without (meets s) es
+pub find-takes-oldest : (s : Search) (e : Event) (es : List Event) → first (meets s) es ≡ Some e → apply (Taken e) es ≡ without (meets s) es
 unfolding apply
 find-takes-oldest s e es f = takes-found (meets s) e es f

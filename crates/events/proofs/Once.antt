@@ -1,14 +1,15 @@
 -- How far the contract reaches: two calls on the same inputs that meet it hand back the same answer, the same next queue and the same buffer.
 use Prim.Native.Nat.{ℕ}
+use Rattle.tapa.specs.declared.Refusal.{Refusal}
+use Rattle.std.specs.Prelude.{Option, Result}
 use mathlib.Core.Path.{◌≡◌, sym, ◌∙◌}
 use mathlib.Core.List.{List}
-use Rattle.replies.specs.declared.Answer.{Answer}
 use Rattle.queue.specs.declared.Queue.{Queue}
 use Rattle.queue.proofs.Once.{one-queue}
 use Rattle.events.specs.declared.Handled.{Handled}
 use Rattle.events.specs.Ring.{HandlingAt}
 
-same-handled : (a b : Answer) (p q : Queue) → a ≡ b → p ≡ q → ◌≡◌ {A = Handled} (record { answer = a; next = p }) (record { answer = b; next = q })
+same-handled : (a b : Result (Option ℕ) Refusal) (p q : Queue) → a ≡ b → p ≡ q → ◌≡◌ {A = Handled} (record { answer = a; next = p }) (record { answer = b; next = q })
 same-handled a b p q e f = cc
 
 pub one-handle : (q : Queue) (message before a b : List ℕ) (h k : Handled) → HandlingAt q message before a h → HandlingAt q message before b k → (h ≡ k) × (a ≡ b)

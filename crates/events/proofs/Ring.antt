@@ -1,9 +1,9 @@
 -- Request 03, from what `handle` promises: where the ring then begins, and which numbers of the queue's array are as they were.
 use Prim.Native.Nat.{ℕ}
+use Rattle.std.specs.Prelude.{Ok, Option, Some, None}
 use mathlib.Core.Path.{◌≡◌, refl, ap, ◌∙◌}
 use mathlib.Core.Bool.{true, false}
 use mathlib.Core.List.{List, [], ◌∷◌}
-use mathlib.Core.Option.{Option, none, some}
 use lib.ListN.{length, get_or}
 use Rattle.lists.specs.Lists.{first}
 use Rattle.lists.proofs.Tests.{split, differ}
@@ -19,7 +19,6 @@ use Rattle.queue.specs.Places.{place_from, events_of, Lawful, start_of, HoldsAt}
 use Rattle.queue.proofs.Taking.{alike, like-itself, meets-known}
 use Rattle.queue.proofs.Once.{one-queue}
 use Rattle.queue.proofs.Still.{oldest-still, added-still}
-use Rattle.replies.specs.declared.Checked.TheVariants.{Passed}
 use Rattle.events.specs.declared.Command.TheVariants.{Get, Find}
 use Rattle.events.specs.declared.Outcome.{Outcome}
 use Rattle.events.specs.declared.Outcome.TheVariants.{Added, Taken, Coded}
@@ -47,8 +46,8 @@ find-stays s x es start n =
     split (known_search s.by) (λ t. rw (t, n) (found (first (meets s) es) refl)) (λ t. rw t)
   where
     found : (o : Option Event) → first (meets s) es ≡ o → start_after (taken_or no_matching_events (sought o)) (x ∷ es) start ≡ start
-    found none f = refl
-    found (some e) f =
+    found None f = refl
+    found (Some e) f =
         split (meets (like_of e) x)
         (λ p. let y : meets s x ≡ true = ap (meets s) (alike e x p) ∙ first-yes (meets s) es e f in differ (cc))
         (λ p. rw p)
@@ -57,13 +56,13 @@ find-stays s x es start n =
 
 module _ (q : Queue) (w : Lawful q) (s before after : List ℕ) (h : Handled)
     (k : HandlingAt q s before after h)
-    (head : Head) (passed : checked (length before) s ≡ Passed head) where
+    (head : Head) (passed : checked (length before) s ≡ Ok head) where
   came : (o : Outcome) → judge (events_of q) (command_of head.kind (part_of s)) ≡ o → HoldsAt h.next (apply o (events_of q)) (start_after o (events_of q) (start_of q))
   unfolding handled start_handled
   came o e = record { holds = rw (passed, e) at k.handling.next; begins = rw (passed, e) at k.begins }
 
   -- 'taking the oldest moves no event', whichever command takes it: every number but one is as it was
-  pub oldest-taken-still : (e : Event) → judge (events_of q) (command_of head.kind (part_of s)) ≡ Taken e → oldest (events_of q) ≡ some e
+  pub oldest-taken-still : (e : Event) → judge (events_of q) (command_of head.kind (part_of s)) ≡ Taken e → oldest (events_of q) ≡ Some e
       → (i : ℕ) → (i ≡ start_of q → ⊥) → get_or h.next.places i 0 ≡ get_or q.places i 0
   unfolding apply start_after
   oldest-taken-still e j o i d = oldest-still q h.next w e o (came (Taken e) j) i d
@@ -79,7 +78,7 @@ module _ (q : Queue) (w : Lawful q) (s before after : List ℕ) (h : Handled)
 
   -- after a Find of the oldest too
   pub find-still : (search : Search) (e : Event) → command_of head.kind (part_of s) ≡ Find search
-      → first (meets search) (events_of q) ≡ some e → oldest (events_of q) ≡ some e
+      → first (meets search) (events_of q) ≡ Some e → oldest (events_of q) ≡ Some e
       → (i : ℕ) → (i ≡ start_of q → ⊥) → get_or h.next.places i 0 ≡ get_or q.places i 0
   unfolding judge
   find-still search e g f o i d =

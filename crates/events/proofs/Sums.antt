@@ -1,5 +1,6 @@
 -- Sums at the desk, C9, and request 01: for every Get and every Flush, from any source and on any thread, and every lent buffer that is large enough.
 use Prim.Native.Nat.{ℕ, ◌+◌, ◌*◌, ◌/◌, ◌%◌, ◌≤◌, ◌<◌}
+use Rattle.std.specs.Prelude.{Some, Ok}
 use mathlib.Core.Path.{◌≡◌, refl, ap, ◌∙◌}
 use mathlib.Core.Bool.{false}
 use mathlib.Core.List.{List, [], ◌∷◌}
@@ -15,10 +16,8 @@ use Rattle.tapa.specs.Said.{says, reply as replies}
 use Rattle.message.specs.Message.{head_of, part_of, message_of, response_of}
 use Rattle.message.proofs.Laws.{part-of-message}
 use Rattle.message.proofs.Sums.{c2}
-use Rattle.replies.specs.declared.Answer.TheVariants.{Reply}
 use Rattle.replies.specs.Said.{said_answer}
 use Rattle.queue.specs.declared.Event.{Event}
-use Rattle.replies.specs.declared.Checked.TheVariants.{Passed}
 use Rattle.events.specs.declared.Command.TheVariants.{Get, Flush}
 use Rattle.events.specs.Events.{elsewhere, checked, command_of, judge, apply, Result, handled}
 
@@ -26,7 +25,7 @@ module _ (s : List ℕ) (short : length s ≡ 8) (none : word_at s 6 ≡ 0) wher
   no-data : length (part_of s) ≡ 0
   no-data = ap length (part-of-message s (head_of s) (c2 s short none)) ∙ length-drop 8 s ∙ omega arith
 
-  taken_in : (room kind : ℕ) → 13 ≤ room → handler_of (word_at s 0) ≡ event_handler → get_or s 4 0 ≡ kind → eqb kind response ≡ false → checked room s ≡ Passed (head_of s)
+  taken_in : (room kind : ℕ) → 13 ≤ room → handler_of (word_at s 0) ≡ event_handler → get_or s 4 0 ≡ kind → eqb kind response ≡ false → checked room s ≡ Ok (head_of s)
   unfolding elsewhere
   taken_in room kind enough there is asks = rw (le-ltb room 13 enough, c2 s short none, there, is, asks)
 
@@ -41,7 +40,7 @@ module _ (s : List ℕ) (short : length s ≡ 8) (none : word_at s 6 ≡ 0) wher
   -- 'C9 Get on an empty queue: 'FF72'.'
   pub c9 : (reply : List ℕ) → 13 ≤ length reply → handler_of (word_at s 0) ≡ event_handler → get_or s 4 0 ≡ get_event
       → handled [] s reply
-      ≡ record { answer = Reply 10; events = []; reply = onto (response_of (word_at s 2) (word_at s 0) (get_or s 5 0) no_events) reply }
+      ≡ record { answer = Ok (Some 10); events = []; reply = onto (response_of (word_at s 2) (word_at s 0) (get_or s 5 0) no_events) reply }
   unfolding handled judge apply response_of
   c9 reply enough there get = rw (taken_in (length reply) get_event enough there get refl, is_get get)
 
@@ -54,14 +53,14 @@ module _ (s : List ℕ) (short : length s ≡ 8) (none : word_at s 6 ≡ 0) wher
   -- 'it answers 'FF72' and stays empty'
   pub flush-none : (reply : List ℕ) → 13 ≤ length reply → handler_of (word_at s 0) ≡ event_handler → get_or s 4 0 ≡ flush_queue
       → handled [] s reply
-      ≡ record { answer = Reply 10; events = []; reply = onto (response_of (word_at s 2) (word_at s 0) (get_or s 5 0) no_events) reply }
+      ≡ record { answer = Ok (Some 10); events = []; reply = onto (response_of (word_at s 2) (word_at s 0) (get_or s 5 0) no_events) reply }
   unfolding handled judge apply response_of
   flush-none reply enough there flush = rw (taken_in (length reply) flush_queue enough there flush refl, is-flush flush)
 
   -- 'a queue with events still answers '0000'', and is empty then
   pub flush-some : (e : Event) (es : List Event) (reply : List ℕ) → 13 ≤ length reply → handler_of (word_at s 0) ≡ event_handler → get_or s 4 0 ≡ flush_queue
       → handled (e ∷ es) s reply
-      ≡ record { answer = Reply 10; events = []; reply = onto (response_of (word_at s 2) (word_at s 0) (get_or s 5 0) successful) reply }
+      ≡ record { answer = Ok (Some 10); events = []; reply = onto (response_of (word_at s 2) (word_at s 0) (get_or s 5 0) successful) reply }
   unfolding handled judge apply response_of
   flush-some e es reply enough there flush = rw (taken_in (length reply) flush_queue enough there flush refl, is-flush flush)
 
@@ -72,7 +71,7 @@ module _ (d1 d2 s1 s2 thread : ℕ) (buffer : List ℕ) (destination : d2 < 256)
   get = d1 ∷ d2 ∷ s1 ∷ s2 ∷ 0xC1 ∷ thread ∷ 0x00 ∷ 0x00 ∷ []
 
   pub c9-bytes : handled [] get buffer
-      ≡ record { answer = Reply 10; events = []; reply = s1 ∷ s2 ∷ d1 ∷ d2 ∷ 0xFF ∷ thread ∷ 0x00 ∷ 0x02 ∷ 0xFF ∷ 0x72 ∷ drop 10 buffer }
+      ≡ record { answer = Ok (Some 10); events = []; reply = s1 ∷ s2 ∷ d1 ∷ d2 ∷ 0xFF ∷ thread ∷ 0x00 ∷ 0x02 ∷ 0xFF ∷ 0x72 ∷ drop 10 buffer }
   unfolding message_of response_of
   c9-bytes =
       let a : (s1 * 256 + s2) / 256 ≡ s1 = omega arith in

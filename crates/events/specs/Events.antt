@@ -1,6 +1,5 @@
 -- The event queue (section 13): what a message asks of it, what is decided, and what that does. Events stand oldest first.
-use Rattle.std.specs.Prelude.{ℕ, ◌+◌, ◌≡◌, Bool, true, false, not, ◌||◌, cond, List, [], ◌∷◌, ◌++◌, eqb, ltb, length, get_or}
-use Rattle.std.proofs.Math.Option.{Option, none, some}
+use Rattle.std.specs.Prelude.{ℕ, ◌+◌, ◌≡◌, Bool, true, false, not, ◌||◌, cond, List, [], ◌∷◌, ◌++◌, eqb, ltb, length, get_or, Result, Ok, Err, Option, Some, None}
 use Rattle.lists.specs.Lists.{checks, first, without}
 use Rattle.tapa.specs.Address.{handler_of}
 use Rattle.tapa.specs.Codes.{successful, unsupported_operation, no_events, no_matching_events, response, add_event, get_event, find_event, flush_queue, event_handler}
@@ -8,10 +7,6 @@ use Rattle.tapa.specs.Numbers.{word_at, two_bytes}
 use Rattle.tapa.specs.declared.Refusal.{Refusal}
 use Rattle.message.specs.declared.Head.{Head}
 use Rattle.message.specs.Message.{part_of}
-use Rattle.replies.specs.declared.Answer.{Answer}
-use Rattle.replies.specs.declared.Answer.TheVariants.{Refused}
-use Rattle.replies.specs.declared.Checked.{Checked}
-use Rattle.replies.specs.declared.Checked.TheVariants.{Passed, Failed}
 use Rattle.replies.specs.Checked.{opened, owned}
 use Rattle.replies.specs.Replies.{answer_of, replied}
 use Rattle.queue.specs.declared.Event.{Event}
@@ -33,7 +28,7 @@ unfoldable pub elsewhere : Head → Bool
 elsewhere h = not (eqb (handler_of h.destination) event_handler) || eqb h.kind response
 
 -- 'Checks: reply buffer under 13 (9), then 1, 2, 3, then destination handler not '0700' or type 'FF' (15).'
-abbrev pub checked : ℕ → List ℕ → Checked
+abbrev pub checked : ℕ → List ℕ → Result Head Refusal
 checked room message = owned elsewhere (opened 13 room message)
 
 -- ---- what is asked
@@ -99,30 +94,30 @@ apply (Coded code) es = es
 
 -- 'A found event's response carries type, location, '0000' (length '0005'); all others only the code.'
 abbrev pub carried : Outcome → Option (List ℕ)
-carried (Added e) = none
-carried Ignored = none
-carried (Taken e) = some (e.kind ∷ (two_bytes e.location ++ two_bytes successful))
-carried Emptied = some (two_bytes successful)
-carried (Coded code) = some (two_bytes code)
+carried (Added e) = None
+carried Ignored = None
+carried (Taken e) = Some (e.kind ∷ (two_bytes e.location ++ two_bytes successful))
+carried Emptied = Some (two_bytes successful)
+carried (Coded code) = Some (two_bytes code)
 
 -- ---- all of it
 
 -- what a message comes to: the answer, the events that the queue then holds, and the whole lent buffer
 pub record Result : Type 0 where
-  pub answer : Answer
+  pub answer : Result (Option ℕ) Refusal
   pub events : List Event
   pub reply : List ℕ
 
 -- 'A refusal returns its number only and changes nothing'
 abbrev pub refuses : Refusal → List Event → List ℕ → Result
-refuses r es reply = record { answer = Refused r; events = es; reply = reply }
+refuses r es reply = record { answer = Err r; events = es; reply = reply }
 
 abbrev pub does : Head → Outcome → List Event → List ℕ → Result
 does h o es reply = record { answer = answer_of (carried o); events = apply o es; reply = replied h (carried o) reply }
 
-abbrev pub obeys : Checked → List Event → List ℕ → List ℕ → Result
-obeys (Failed r) es part reply = refuses r es reply
-obeys (Passed h) es part reply = does h (judge es (command_of h.kind part)) es reply
+abbrev pub obeys : Result Head Refusal → List Event → List ℕ → List ℕ → Result
+obeys (Err r) es part reply = refuses r es reply
+obeys (Ok h) es part reply = does h (judge es (command_of h.kind part)) es reply
 
 unfoldable pub handled : List Event → List ℕ → List ℕ → Result
 handled es message reply = obeys (checked (length reply) message) es (part_of message) reply

@@ -1,13 +1,13 @@
 -- Where the queue's ring begins after a message (request 03). What the message comes to, and which events are then held, is said in Events.
-use Rattle.std.specs.Prelude.{ℕ, ◌≡◌, List, length}
+use Rattle.std.specs.Prelude.{ℕ, ◌≡◌, List, length, Result, Ok, Err}
+use Rattle.tapa.specs.declared.Refusal.{Refusal}
+use Rattle.message.specs.declared.Head.{Head}
 use Rattle.message.specs.Message.{part_of}
 use Rattle.queue.specs.declared.Event.{Event}
 use Rattle.queue.specs.declared.Queue.{Queue}
 use Rattle.queue.specs.Places.{events_of, queue_of, start_of, start_without}
 use Rattle.events.specs.declared.Outcome.{Outcome}
 use Rattle.events.specs.declared.Outcome.TheVariants.{Added, Ignored, Taken, Emptied, Coded}
-use Rattle.replies.specs.declared.Checked.{Checked}
-use Rattle.replies.specs.declared.Checked.TheVariants.{Passed, Failed}
 use Rattle.events.specs.declared.Handled.{Handled}
 use Rattle.events.specs.declared.Step.{Step}
 use Rattle.events.specs.Events.{checked, command_of, judge, handled, Handling}
@@ -24,9 +24,9 @@ start_after Emptied es start = 0
 start_after (Coded code) es start = start
 
 -- after a message; a refusal changes nothing
-abbrev pub start_obeyed : Checked → List Event → List ℕ → ℕ → ℕ
-start_obeyed (Failed r) es part start = start
-start_obeyed (Passed h) es part start = start_after (judge es (command_of h.kind part)) es start
+abbrev pub start_obeyed : Result Head Refusal → List Event → List ℕ → ℕ → ℕ
+start_obeyed (Err r) es part start = start
+start_obeyed (Ok h) es part start = start_after (judge es (command_of h.kind part)) es start
 
 unfoldable pub start_handled : List Event → ℕ → List ℕ → List ℕ → ℕ
 start_handled es start message reply = start_obeyed (checked (length reply) message) es (part_of message) start

@@ -11,7 +11,7 @@
 #![tactic(auto)]
 
 use queue::{Event, Queue, Search, Stretch};
-use replies::Answer;
+use tapa::Refusal;
 
 // A message as the queue reads it. A wrong Add is apart, since it has no reply.
 #[derive(Clone, Copy)]
@@ -37,13 +37,13 @@ pub enum Outcome {
 // What a message came to in place: the answer, and which places of the ring then hold events.
 #[derive(Clone, Copy)]
 pub struct Step {
-    pub answer: Answer,
+    pub answer: Result<Option<usize>, Refusal>,
     pub stretch: Stretch,
 }
 
 // What a message came to, beside the queue as it then is.
 #[derive(Clone, Copy)]
 pub struct Handled {
-    pub answer: Answer,
+    pub answer: Result<Option<usize>, Refusal>,
     pub next: Queue,
 }

@@ -8,7 +8,7 @@ ghost use Rattle.router.specs.Router.{Lawful};
 use router::Router;
 use start::Started;
 use std::io::Print;
-use table::{Checked, Row};
+use table::Row;
 
 // A fresh router over the till driver '0100' and the security module '0001', both open: two lent
 // rows, read in order.
@@ -54,7 +54,7 @@ fn main(rt: HostRuntime) {
     let started = begin();
     // A refused table leaves a router that carries nothing, so the answer is looked at first.
     let answer = started.answer;
-    let Checked::Accepted = answer else {
+    let Ok(()) = answer else {
         let _ = rt.stderr().write_all(b"example: the table is refused\n");
         return;
     };

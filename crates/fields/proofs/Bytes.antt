@@ -1,8 +1,8 @@
 -- The messages of an input are bytes, as the input is. Assumes nothing.
 use Prim.Native.Nat.{◌*◌, ◌+◌, suc, zero, ℕ}
+use Rattle.std.specs.Prelude.{Option, Some, None}
 use mathlib.Core.Bool.{◌&&◌}
 use mathlib.Core.List.{List, [], ◌∷◌}
-use mathlib.Core.Option.{Option, none, some}
 use lib.Dec.{eqb, leb}
 use lib.ListN.{drop, get_or, length}
 use Rattle.fields.specs.Fields.{File, Step, Steps, broken, cut, ended, field, file_of, give-up, message, over, parse, replaced, step_of, step_then, steps_of, then}
@@ -44,11 +44,11 @@ step-bytes : (n t : ℕ) (c : List ℕ) (m : Steps) → Bytes c → StepsBytes m
 unfolding step_of
 step-bytes n t c m b w =
     checks-are (λ (o : Option Step). StepsBytes (step_then n o m))
-    ((eqb t 2, some (message c))
-    ∷ (eqb t 3 && eqb (length c) 3, some (give-up (get_or c 0 0) (word_at c 1)))
-    ∷ (eqb t 4 && eqb (length c) 2, some (replaced (word_at c 0)))
+    ((eqb t 2, Some (message c))
+    ∷ (eqb t 3 && eqb (length c) 3, Some (give-up (get_or c 0 0) (word_at c 1)))
+    ∷ (eqb t 4 && eqb (length c) 2, Some (replaced (word_at c 0)))
     ∷ [])
-    none
+    None
     ((b, w), (w, (w, tt)))
     (λ f. tt)
 

@@ -1,9 +1,9 @@
 -- What is left from a place on, by the answers of `row_at` and `step_at`; and where the next field starts. Assumes nothing.
 use Prim.Native.Nat.{ℕ, ◌+◌, ◌-◌, ◌≤◌}
+use Rattle.std.specs.Prelude.{Option, Some, None}
 use mathlib.Core.Path.{◌≡◌, refl, ap, ◌∙◌}
 use mathlib.Core.Bool.{Bool, ◌&&◌}
 use mathlib.Core.List.{List}
-use mathlib.Core.Option.{Option, none, some}
 use native.Mathlib.Omega.{arith}
 use lib.Dec.{eqb}
 use lib.ListN.{length, take, drop}
@@ -23,8 +23,8 @@ use Rattle.fields.specs.declared.NextStep.TheVariants.{Message, GiveUp, Replaced
 -- ---- rows
 
 row_by : (s : List ℕ) (n at next : ℕ) (o : Option (ℕ × Bool)) → row_then n o (script_at s (n + 1) next) ≡ script_by s n at (row_placed next o)
-row_by s n at next none = refl
-row_by s n at next (some r) = refl
+row_by s n at next None = refl
+row_by s n at next (Some r) = refl
 
 script-in : (s : List ℕ) (n at : ℕ) (r : Read) → file_of (drop at s) ≡ seen s r → script_of n (seen s r) ≡ script_by s n at (row_from s r)
 unfolding steps_at script_at
@@ -43,7 +43,7 @@ script-at s n at = ap (script_of n) (unfolds s at) ∙ script-in s n at (read_at
 -- ---- steps
 
 -- a message is all of its field's contents
-message-whole : (t : ℕ) (c m : List ℕ) → step_of t c ≡ some (message m) → m ≡ c
+message-whole : (t : ℕ) (c m : List ℕ) → step_of t c ≡ Some (message m) → m ≡ c
 unfolding step_of
 message-whole t c m =
     cases (eqb t 2) (λ e. rw e (λ p. cc))
@@ -54,12 +54,12 @@ message-whole t c m =
 step_by : (s : List ℕ) (n t a k : ℕ) (o : Option Step)
     → step_of t (take k (drop a s)) ≡ o
     → step_then n o (steps_at s (n + 1) (a + k)) ≡ steps_by s n (step_placed a (a + k) o)
-step_by s n t a k none e = refl
-step_by s n t a k (some (message m)) e =
+step_by s n t a k None e = refl
+step_by s n t a k (Some (message m)) e =
     let l : a + k - a ≡ k = omega arith in
     rw (message-whole t (take k (drop a s)) m e, l)
-step_by s n t a k (some (give-up x y)) e = refl
-step_by s n t a k (some (replaced x)) e = refl
+step_by s n t a k (Some (give-up x y)) e = refl
+step_by s n t a k (Some (replaced x)) e = refl
 
 steps-in : (s : List ℕ) (n : ℕ) (r : Read) → steps_of n (seen s r) ≡ steps_by s n (step_from s r)
 unfolding steps_at
@@ -80,7 +80,7 @@ RowInside s at (Row x o next) = (at + 6 ≡ next) × (next ≤ length s)
 RowInside s at Torn = Unit {0}
 RowInside s at Over = Unit {0}
 
-row-three : (c : List ℕ) (r : ℕ × Bool) → row_of c ≡ some r → length c ≡ 3
+row-three : (c : List ℕ) (r : ℕ × Bool) → row_of c ≡ Some r → length c ≡ 3
 unfolding row_of
 row-three c r =
     cases (eqb (length c) 3) (λ e p. eqb-true (length c) 3 e)
@@ -89,8 +89,8 @@ row-three c r =
 placed-row-inside : (s : List ℕ) (at a n : ℕ) → at + 3 ≡ a → a + n ≤ length s
     → (o : Option (ℕ × Bool)) → row_of (take n (drop a s)) ≡ o
     → RowInside s at (row_placed (a + n) o)
-placed-row-inside s at a n h k none e = tt
-placed-row-inside s at a n h k (some r) e = (omega (arith, row-three (take n (drop a s)) r e, long s a n k), k)
+placed-row-inside s at a n h k None e = tt
+placed-row-inside s at a n h k (Some r) e = (omega (arith, row-three (take n (drop a s)) r e, long s a n k), k)
 
 row-inside-in : (s : List ℕ) (at : ℕ) (r : Read) → read_at s at ≡ r → RowInside s at (row_from s r)
 row-inside-in s at End e = tt
@@ -112,10 +112,10 @@ StepInside s at Broken = Unit {0}
 StepInside s at Ended = Unit {0}
 
 placed-step-inside : (s : List ℕ) (at a next : ℕ) (o : Option Step) → at + 3 ≤ a → a ≤ next → next ≤ length s → StepInside s at (step_placed a next o)
-placed-step-inside s at a next none h k l = tt
-placed-step-inside s at a next (some (message m)) h k l = (h, k, l)
-placed-step-inside s at a next (some (give-up t x)) h k l = (omega arith, l)
-placed-step-inside s at a next (some (replaced x)) h k l = (omega arith, l)
+placed-step-inside s at a next None h k l = tt
+placed-step-inside s at a next (Some (message m)) h k l = (h, k, l)
+placed-step-inside s at a next (Some (give-up t x)) h k l = (omega arith, l)
+placed-step-inside s at a next (Some (replaced x)) h k l = (omega arith, l)
 
 step-inside-in : (s : List ℕ) (at : ℕ) (r : Read) → read_at s at ≡ r → StepInside s at (step_from s r)
 step-inside-in s at End e = tt

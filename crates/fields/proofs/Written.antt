@@ -1,19 +1,19 @@
 -- The tags, lengths and status bytes of a session file, written out.
 use Prim.Native.Nat.{ℕ}
+use Rattle.std.specs.Prelude.{Some, None}
 use mathlib.Core.Path.{◌≡◌, refl}
 use mathlib.Core.Bool.{true, false}
 use mathlib.Core.List.{List, [], ◌∷◌}
-use mathlib.Core.Option.{none, some}
 use lib.Dec.{eqb}
 use lib.ListN.{replicate}
 use Rattle.fields.specs.Fields.{ended, cut, field, file_of, row_of, message, give-up, replaced, step_of, over, broken, then, torn, begins, row-then, script_of}
 
 -- ''01' row (address, then 1 open or 0 closed)'; another status byte or another length is none
 pub record Rows : Type 0 where
-  pub opened : row_of (0x02 ∷ 0x82 ∷ 1 ∷ []) ≡ some (0x0282, true)
-  pub closed : row_of (0x02 ∷ 0x82 ∷ 0 ∷ []) ≡ some (0x0282, false)
-  pub status : (row_of (0x02 ∷ 0x82 ∷ 2 ∷ []) ≡ none) × (row_of (0x02 ∷ 0x82 ∷ 128 ∷ []) ≡ none) × (row_of (0x02 ∷ 0x82 ∷ 255 ∷ []) ≡ none)
-  pub sizes : (row_of [] ≡ none) × (row_of (0x02 ∷ 0x82 ∷ []) ≡ none) × (row_of (0x02 ∷ 0x82 ∷ 1 ∷ 0 ∷ []) ≡ none)
+  pub opened : row_of (0x02 ∷ 0x82 ∷ 1 ∷ []) ≡ Some (0x0282, true)
+  pub closed : row_of (0x02 ∷ 0x82 ∷ 0 ∷ []) ≡ Some (0x0282, false)
+  pub status : (row_of (0x02 ∷ 0x82 ∷ 2 ∷ []) ≡ None) × (row_of (0x02 ∷ 0x82 ∷ 128 ∷ []) ≡ None) × (row_of (0x02 ∷ 0x82 ∷ 255 ∷ []) ≡ None)
+  pub sizes : (row_of [] ≡ None) × (row_of (0x02 ∷ 0x82 ∷ []) ≡ None) × (row_of (0x02 ∷ 0x82 ∷ 1 ∷ 0 ∷ []) ≡ None)
 
 pub rows : Rows
 unfolding row_of
@@ -22,12 +22,12 @@ rows = record { opened = refl; closed = refl; status = (refl, refl, refl); sizes
 -- ''02' message; '03' give up (3 bytes: thread, address); '04' replaced (2 bytes)'; 'any field but a message of another length' is broken, and so is
 -- every other tag
 pub record Tags : Type 0 where
-  pub a-message : (c : List ℕ) → step_of 2 c ≡ some (message c)
-  pub a-give-up : (t : ℕ) → step_of 3 (t ∷ 0x02 ∷ 0x82 ∷ []) ≡ some (give-up t 0x0282)
-  pub a-replaced : step_of 4 (0x02 ∷ 0x82 ∷ []) ≡ some (replaced 0x0282)
-  pub give-up-sizes : (step_of 3 [] ≡ none) × (step_of 3 (3 ∷ []) ≡ none) × (step_of 3 (3 ∷ 0x02 ∷ []) ≡ none) × (step_of 3 (3 ∷ 0x02 ∷ 0x82 ∷ 0 ∷ []) ≡ none)
-  pub replaced-sizes : (step_of 4 [] ≡ none) × (step_of 4 (0x02 ∷ []) ≡ none) × (step_of 4 (0x02 ∷ 0x82 ∷ 0 ∷ []) ≡ none)
-  pub others : (t : ℕ) (c : List ℕ) → eqb t 2 ≡ false → eqb t 3 ≡ false → eqb t 4 ≡ false → step_of t c ≡ none
+  pub a-message : (c : List ℕ) → step_of 2 c ≡ Some (message c)
+  pub a-give-up : (t : ℕ) → step_of 3 (t ∷ 0x02 ∷ 0x82 ∷ []) ≡ Some (give-up t 0x0282)
+  pub a-replaced : step_of 4 (0x02 ∷ 0x82 ∷ []) ≡ Some (replaced 0x0282)
+  pub give-up-sizes : (step_of 3 [] ≡ None) × (step_of 3 (3 ∷ []) ≡ None) × (step_of 3 (3 ∷ 0x02 ∷ []) ≡ None) × (step_of 3 (3 ∷ 0x02 ∷ 0x82 ∷ 0 ∷ []) ≡ None)
+  pub replaced-sizes : (step_of 4 [] ≡ None) × (step_of 4 (0x02 ∷ []) ≡ None) × (step_of 4 (0x02 ∷ 0x82 ∷ 0 ∷ []) ≡ None)
+  pub others : (t : ℕ) (c : List ℕ) → eqb t 2 ≡ false → eqb t 3 ≡ false → eqb t 4 ≡ false → step_of t c ≡ None
 
 pub tags : Tags
 unfolding step_of

@@ -1,6 +1,5 @@
 -- The session program: the input as a list of fields, and what these fields say.
-use Rattle.std.specs.Prelude.{ℕ, zero, suc, ◌+◌, ◌*◌, Bool, ◌&&◌, cond, List, [], ◌∷◌, ◌++◌, eqb, leb, length, take, drop, get_or}
-use Rattle.std.proofs.Math.Option.{Option, none, some}
+use Rattle.std.specs.Prelude.{ℕ, zero, suc, ◌+◌, ◌*◌, Bool, ◌&&◌, cond, List, [], ◌∷◌, ◌++◌, eqb, leb, length, take, drop, get_or, Option, Some, None}
 use Rattle.lists.specs.Lists.{checks}
 use Rattle.tapa.specs.Numbers.{word_at, two_bytes}
 
@@ -35,7 +34,7 @@ field_bytes t c = t ∷ (two_bytes (length c) ++ c)
 
 -- ''01' row (address, then 1 open or 0 closed)'
 unfoldable pub row_of : List ℕ → Option (ℕ × Bool)
-row_of c = cond (eqb (length c) 3 && leb (get_or c 2 0) 1) (some (word_at c 0, eqb (get_or c 2 0) 1)) none
+row_of c = cond (eqb (length c) 3 && leb (get_or c 2 0) 1) (Some (word_at c 0, eqb (get_or c 2 0) 1)) None
 
 pub data Step : Type 0 where
   message : List ℕ → Step
@@ -46,11 +45,11 @@ pub data Step : Type 0 where
 unfoldable pub step_of : ℕ → List ℕ → Option Step
 step_of t c =
     checks
-    ((eqb t 2, some (message c))
-    ∷ (eqb t 3 && eqb (length c) 3, some (give-up (get_or c 0 0) (word_at c 1)))
-    ∷ (eqb t 4 && eqb (length c) 2, some (replaced (word_at c 0)))
+    ((eqb t 2, Some (message c))
+    ∷ (eqb t 3 && eqb (length c) 3, Some (give-up (get_or c 0 0) (word_at c 1)))
+    ∷ (eqb t 4 && eqb (length c) 2, Some (replaced (word_at c 0)))
     ∷ [])
-    none
+    None
 
 -- ---- the steps: up to the end, or to the first broken field and its number, 'all fields counted from 1'
 
@@ -60,8 +59,8 @@ pub data Steps : Type 0 where
   then : Step → Steps → Steps
 
 abbrev pub step_then : ℕ → Option Step → Steps → Steps
-step_then n none m = broken n
-step_then n (some st) m = then st m
+step_then n None m = broken n
+step_then n (Some st) m = then st m
 
 -- n is the number of the first field here; a late row says no step, so it is broken
 abbrev pub steps_of : ℕ → File → Steps
@@ -77,8 +76,8 @@ pub data Script : Type 0 where
   row-then : ℕ → Bool → Script → Script
 
 abbrev pub row_then : ℕ → Option (ℕ × Bool) → Script → Script
-row_then n none m = torn n
-row_then n (some r) m = row-then r.0 r.1 m
+row_then n None m = torn n
+row_then n (Some r) m = row-then r.0 r.1 m
 
 -- what has a row's tag is a row, also where it is cut; any other tag begins the steps
 abbrev pub script_of : ℕ → File → Script
@@ -89,6 +88,6 @@ script_of n (field t c r) = cond (eqb t 1) (row_then n (row_of c) (script_of (n 
 -- ---- 'a broken field .. prints `broken` and its number': the first one, if there is one
 
 abbrev pub broken_step : Steps → Option ℕ
-broken_step over = none
-broken_step (broken n) = some n
+broken_step over = None
+broken_step (broken n) = Some n
 broken_step (then st m) = broken_step m

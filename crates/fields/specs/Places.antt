@@ -1,6 +1,5 @@
 -- The same file place by place: what stands at a place, and what is left from there on.
-use Rattle.std.specs.Prelude.{ℕ, ◌+◌, ◌-◌, Bool, cond, List, [], ◌∷◌, eqb, leb, ltb, length, take, drop, get_or}
-use Rattle.std.proofs.Math.Option.{Option, none, some}
+use Rattle.std.specs.Prelude.{ℕ, ◌+◌, ◌-◌, Bool, cond, List, [], ◌∷◌, eqb, leb, ltb, length, take, drop, get_or, Option, Some, None}
 use Rattle.lists.specs.Lists.{checks}
 use Rattle.tapa.specs.Numbers.{word_at}
 use Rattle.fields.specs.Fields.{File, ended, cut, field, file_of, row_of, step_of, Step, message, give-up, replaced, Steps, over, broken, then, steps_of, Script, torn, begins, row-then, script_of}
@@ -32,8 +31,8 @@ seen s (Field t a n) = field t (take n (drop a s)) (file_of (drop (a + n) s))
 -- ---- among the rows
 
 abbrev pub row_placed : ℕ → Option (ℕ × Bool) → NextRow
-row_placed next none = Torn
-row_placed next (some r) = Row r.0 r.1 next
+row_placed next None = Torn
+row_placed next (Some r) = Row r.0 r.1 next
 
 abbrev pub row_from : List ℕ → Read → NextRow
 row_from s End = Over
@@ -46,10 +45,10 @@ row_at s at = row_from s (read_at s at)
 -- ---- among the steps
 
 abbrev pub step_placed : ℕ → ℕ → Option Step → NextStep
-step_placed start next none = Broken
-step_placed start next (some (message c)) = Message start next
-step_placed start next (some (give-up t a)) = GiveUp t a next
-step_placed start next (some (replaced a)) = Replaced a next
+step_placed start next None = Broken
+step_placed start next (Some (message c)) = Message start next
+step_placed start next (Some (give-up t a)) = GiveUp t a next
+step_placed start next (Some (replaced a)) = Replaced a next
 
 abbrev pub step_from : List ℕ → Read → NextStep
 step_from s End = Ended

@@ -1,5 +1,6 @@
 -- Create does to the store what it does to a plain list of files.
 use Prim.Native.Nat.{◌+◌, ◌-◌, ◌<◌, suc, zero, ℕ, ◌≤◌}
+use Rattle.std.specs.Prelude.{Option, Some, None}
 use mathlib.Core.Bool.{cond, false, true}
 use mathlib.Core.List.{List, [], map, ◌∷◌}
 use mathlib.Core.Path.{◌≡◌, ap, refl, sym, ◌∙◌}
@@ -24,8 +25,6 @@ use Rattle.lists.proofs.Least.{least-is}
 use Rattle.lists.proofs.Tests.{clash, positive, split}
 use Rattle.lists.specs.ByPlace.{cut}
 use Rattle.lists.specs.Lists.{All, count, some_of}
-use Rattle.lists.specs.declared.Found.{Found}
-use Rattle.lists.specs.declared.Found.TheVariants.{At, Nothing}
 use Rattle.tapa.specs.Codes.{insufficient_resources, successful, unsupported_operation}
 
 -- ---- the list of files
@@ -47,8 +46,8 @@ module _ (l : List Entry) (area : List ℕ) where
       files-insert (suc n) j ks k' y (le_of_suc-le-suc h) t ∙ ap (λ (m : ℕ). insert (file_of m k' l area) (files_from (suc n) ks l area)) (sym e) in
       split k.made (λ u. rw (u, le-ltb (n + suc j) n (omega arith)) (ap (λ (z : List File). file_of n k l area ∷ z) ih)) (λ u. rw u ih)
 
-pub create-view : (b : Book) (area : List ℕ) (law : Lawful b area) (k r i : ℕ) → free_kind 0 b.kinds ≡ At i
-    → view_of (created_at b k r (At i)).next area ≡ insert (empty_file (1 + i) k r) (view_of b area)
+pub create-view : (b : Book) (area : List ℕ) (law : Lawful b area) (k r i : ℕ) → free_kind 0 b.kinds ≡ Some i
+    → view_of (created_at b k r (Some i)).next area ≡ insert (empty_file (1 + i) k r) (view_of b area)
 create-view b area law k r i e =
     let z = free-at b.kinds i e in
     let m : 1 + i ≡ suc i = omega arith in
@@ -64,7 +63,7 @@ fits_kept ks i k' (x ∷ l) t a =
     get_or-set_other ks i (x.file - 1) k' no_kind (λ z. clash (get_or ks i no_kind).made (rw z at f.made) t) in
     (record { filed = f.filed; made = rw e f.made; slot = f.slot; key = rw e f.key; body = rw e f.body }, fits_kept ks i k' l t a.1)
 
-pub create-law : (b : Book) (area : List ℕ) (law : Lawful b area) (k r i : ℕ) → k ≤ 255 → r ≤ 128 → free_kind 0 b.kinds ≡ At i → Lawful (created_at b k r (At i)).next area
+pub create-law : (b : Book) (area : List ℕ) (law : Lawful b area) (k r i : ℕ) → k ≤ 255 → r ≤ 128 → free_kind 0 b.kinds ≡ Some i → Lawful (created_at b k r (Some i)).next area
 create-law b area law k r i hk hr e =
     let z = free-at b.kinds i e in
     record {
@@ -98,32 +97,32 @@ module _ (l : List Entry) (area : List ℕ) where
       split k.made (λ t. rw (t, ne_eqb m n (λ z. omega arith)) (id-in m (suc n) j ks (omega arith))) (λ t. rw t (id-in m (suc n) j ks (omega arith)))
 
 -- below the free place all are made
-pub free-below : (n k : ℕ) (ks : List Kind) → free_kind n ks ≡ At (n + k) → (m : ℕ) → m < k → (get_or ks m no_kind).made ≡ true
+pub free-below : (n k : ℕ) (ks : List Kind) → free_kind n ks ≡ Some (n + k) → (m : ℕ) → m < k → (get_or ks m no_kind).made ≡ true
 free-below n k [] e m h = let z : ◌≡◌ {A = ℕ} 0 1 = cc in absurd (omega arith)
 free-below n zero (x ∷ ks) e m h = absurd (not-suc-le-zero h)
 free-below n (suc k) (x ∷ ks) e zero h =
-    split x.made (λ t. t) (λ t. let f : At n ≡ At (n + suc k) = rw t at e in let z : n ≡ n + suc k = cc in absurd (omega arith))
+    split x.made (λ t. t) (λ t. let f : Some n ≡ Some (n + suc k) = rw t at e in let z : n ≡ n + suc k = cc in absurd (omega arith))
 free-below n (suc k) (x ∷ ks) e (suc m) h =
     split x.made
-    (λ t. let f : free_kind (suc n) ks ≡ At (n + suc k) = rw t at e in let z : n + suc k ≡ suc n + k = omega arith in free-below (suc n) k ks (f ∙ ap At z) m (omega arith))
-    (λ t. let f : At n ≡ At (n + suc k) = rw t at e in let z : n ≡ n + suc k = cc in absurd (omega arith))
+    (λ t. let f : free_kind (suc n) ks ≡ Some (n + suc k) = rw t at e in let z : n + suc k ≡ suc n + k = omega arith in free-below (suc n) k ks (f ∙ ap Some z) m (omega arith))
+    (λ t. let f : Some n ≡ Some (n + suc k) = rw t at e in let z : n ≡ n + suc k = cc in absurd (omega arith))
 
-pub full-none : (n : ℕ) (ks : List Kind) → free_kind n ks ≡ Nothing → count is_made ks ≡ length ks
+pub full-none : (n : ℕ) (ks : List Kind) → free_kind n ks ≡ None → count is_made ks ≡ length ks
 full-none n [] e = refl
 full-none n (k ∷ ks) e =
     split k.made (λ t. rw t (omega (arith, full-none (suc n) ks (rw t at e))))
-    (λ t. let f : At n ≡ Nothing = rw t at e in let z : ◌≡◌ {A = ℕ} 0 1 = cc in absurd (omega arith))
+    (λ t. let f : Some n ≡ None = rw t at e in let z : ◌≡◌ {A = ℕ} 0 1 = cc in absurd (omega arith))
 
 module _ (b : Book) (area : List ℕ) (law : Lawful b area) where
   abbrev xs : List ℕ
   xs = ids (entries_of b) area 1 b.kinds
 
-  pub free-id-is : (i : ℕ) → free_kind 0 b.kinds ≡ At i → free_id (view_of b area) ≡ 1 + i
+  pub free-id-is : (i : ℕ) → free_kind 0 b.kinds ≡ Some i → free_id (view_of b area) ≡ 1 + i
   free-id-is i e =
       let z = free-at b.kinds i e in
       let up : i ≡ 0 + i = omega arith in
       least-is i 1 xs (omega (arith, z.inside, law.shape.files))
-      (λ m h. id-in (entries_of b) area (1 + m) 1 m b.kinds refl ∙ free-below 0 i b.kinds (e ∙ ap At up) m h)
+      (λ m h. id-in (entries_of b) area (1 + m) 1 m b.kinds refl ∙ free-below 0 i b.kinds (e ∙ ap Some up) m h)
       (id-in (entries_of b) area (1 + i) 1 i b.kinds refl ∙ z.free)
 
 -- ---- one file more
@@ -146,9 +145,9 @@ pub record More (b : Book) (area : List ℕ) (k r : ℕ) : Type 0 where
 more : (b : Book) (area : List ℕ) (law : Lawful b area) (k r : ℕ) → k ≤ 255 → r ≤ 128 → count is_made b.kinds < 16 → More b area k r
 more b area law k r hk hr h = go (free_kind 0 b.kinds) refl
   where
-    go : (z : Found) → free_kind 0 b.kinds ≡ z → More b area k r
-    go Nothing e = absurd (omega (arith, full-none 0 b.kinds e, law.shape.files))
-    go (At i) e =
+    go : (z : Option ℕ) → free_kind 0 b.kinds ≡ z → More b area k r
+    go None e = absurd (omega (arith, full-none 0 b.kinds e, law.shape.files))
+    go (Some i) e =
         let z = free-at b.kinds i e in
         let n : free_id (view_of b area) ≡ 1 + i = free-id-is b area law i e in
         record {

@@ -1,5 +1,6 @@
 -- The identifiers of new files: they rise, are of 1 to 16, and there is one as long as fewer than 16 files are held.
 use Prim.Native.Nat.{◌+◌, ◌<◌, suc, zero, ℕ, ◌≤◌}
+use Rattle.std.specs.Prelude.{Option, Some, None}
 use mathlib.Core.Bool.{false, true}
 use mathlib.Core.List.{List}
 use mathlib.Core.Path.{ap, refl, subst, sym, ◌∙◌, ◌≡◌}
@@ -23,29 +24,27 @@ use Rattle.lists.proofs.Tests.{clash, split}
 use Rattle.lists.specs.ByPlace.{is_at}
 use Rattle.lists.specs.Least.{Rising}
 use Rattle.lists.specs.Lists.{All, count}
-use Rattle.lists.specs.declared.Found.{Found}
-use Rattle.lists.specs.declared.Found.TheVariants.{At, Nothing}
 use Rattle.tapa.specs.Codes.{insufficient_resources, successful}
 
 -- ---- the identifiers rise: all places below the free one are made, and stay so
 rises : (n k r m : ℕ) (b : Book) → length b.kinds ≡ 16 → count is_made b.kinds + n ≤ 16 → ((j : ℕ) → j < m → (get_or b.kinds j no_kind).made ≡ true)
     → Rising m (create_ids n k r b)
 rises zero k r m b e h low = tt
-rises (suc n) k r m b e h low = go (free_kind 0 b.kinds) refl (λ (i : ℕ). rises n k r (i + 1) (created_at b k r (At i)).next)
+rises (suc n) k r m b e h low = go (free_kind 0 b.kinds) refl (λ (i : ℕ). rises n k r (i + 1) (created_at b k r (Some i)).next)
   where
-    go : (z : Found) → free_kind 0 b.kinds ≡ z
+    go : (z : Option ℕ) → free_kind 0 b.kinds ≡ z
         → ((i : ℕ) → length (set b.kinds i (kind k r)) ≡ 16 → count is_made (set b.kinds i (kind k r)) + n ≤ 16
-        → ((j : ℕ) → j < i + 1 → (get_or (set b.kinds i (kind k r)) j no_kind).made ≡ true) → Rising (i + 1) (create_ids n k r (created_at b k r (At i)).next))
+        → ((j : ℕ) → j < i + 1 → (get_or (set b.kinds i (kind k r)) j no_kind).made ≡ true) → Rising (i + 1) (create_ids n k r (created_at b k r (Some i)).next))
         → Rising m (create_ids (suc n) k r b)
-    go Nothing f ih = absurd (omega (arith, full-none 0 b.kinds f))
-    go (At i) f ih =
+    go None f ih = absurd (omega (arith, full-none 0 b.kinds f))
+    go (Some i) f ih =
         let z = free-at b.kinds i f in
         let above : m < i + 1 = split (ltb i m) (λ t. clash (get_or b.kinds i no_kind).made (low i (ltb-true i m t)) z.free) (λ t. omega (arith, ltb-false i m t)) in
         let below : (j : ℕ) → j < i + 1 → (get_or (set b.kinds i (kind k r)) j no_kind).made ≡ true =
         (λ j g. split (eqb i j)
         (λ t. let w : i ≡ j = eqb-true i j t in ap (λ (q : ℕ). (get_or (set b.kinds i (kind k r)) q no_kind).made) (sym w) ∙ ap (λ (x : Kind). x.made) (get_or-set_same b.kinds i (kind k r) no_kind z.inside))
         (λ t. ap (λ (x : Kind). x.made) (get_or-set_other b.kinds i j (kind k r) no_kind (λ w. eqb-false i j t (let y : i ≡ j = omega arith in y)))
-        ∙ free-below 0 i b.kinds (f ∙ ap At (let u : i ≡ 0 + i = omega arith in u)) j (less i j t g))) in
+        ∙ free-below 0 i b.kinds (f ∙ ap Some (let u : i ≡ 0 + i = omega arith in u)) j (less i j t g))) in
         rw f (above, ih i (length-set b.kinds i (kind k r) ∙ e) (omega (arith, made_more b.kinds k r i z.inside z.free)) below)
       where
         less : (i j : ℕ) → eqb i j ≡ false → j < i + 1 → j < i
@@ -96,6 +95,6 @@ module _ (b : Book) (area : List ℕ) (law : Lawful b area) where
       let m = room-create 1 k r hk (rw (le-leb r 128 hr)) in
       record { full = λ e. m.full (omega arith); free = λ h. (m.free (omega arith), row h (free_kind 0 b.kinds) refl) }
     where
-      row : length s < 16 → (z : Found) → free_kind 0 b.kinds ≡ z → is_at z ≡ true
-      row h Nothing e = absurd (omega (arith, held, full-none 0 b.kinds e, law.shape.files))
-      row h (At i) e = refl
+      row : length s < 16 → (z : Option ℕ) → free_kind 0 b.kinds ≡ z → is_at z ≡ true
+      row h None e = absurd (omega (arith, held, full-none 0 b.kinds e, law.shape.files))
+      row h (Some i) e = refl

@@ -1,8 +1,8 @@
 -- Every response ends in one of nine codes: 'FF54', 'FF55', 'FF57' and 'FF58' are never given, nor 'FFF3', 'FFF5', 'FFF7', 'FFF8' and 'FFF9'.
 use Prim.Native.Nat.{◌+◌, ℕ}
+use Rattle.std.specs.Prelude.{Option, Some, None}
 use mathlib.Core.Bool.{Bool, cond, false, not, true}
 use mathlib.Core.List.{◌++◌, List, [], ◌∷◌}
-use mathlib.Core.Option.{Option, none, some}
 use mathlib.Core.Path.{refl, ◌≡◌}
 use lib.Dec.{eqb, leb, ltb}
 use lib.ListN.{get_or, length}
@@ -50,43 +50,43 @@ deleting-files : (s : List File) (fs : List ℕ) → Known (delete_files_code s 
 deleting-files s fs = either (some_of (λ (f : ℕ). not (has s f)) fs) _ _ refl (either (twice fs) _ _ refl refl)
 
 adding : (s : List File) (o : Option File) (key d : List ℕ) → Known (add_code_in s o key d)
-adding s none key d = refl
-adding s (some g) key d =
+adding s None key d = refl
+adding s (Some g) key d =
     either (ltb g.rec_max (length d)) _ _ refl
     (either (ltb g.key_max (length key)) _ _ refl
     (either (cond (ltb 0 g.key_max) (some_of (keyed key) g.records) false) _ _ refl (either (leb 256 (held s)) _ _ refl refl)))
 
 updating : (o : Option File) (p : ℕ) (key d : List ℕ) → Known (update_code_in o p key d)
-updating none p key d = refl
-updating (some g) p key d =
+updating None p key d = refl
+updating (Some g) p key d =
     either (ltb g.rec_max (length d)) _ _ refl
     (either (ltb g.key_max (length key)) _ _ refl
     (either (not (some_of (sought p) g.records)) _ _ refl
     (either (cond (ltb 0 g.key_max) (some_of (keyed key) (without (sought p) g.records)) false) _ _ refl refl)))
 
 deleting : (o : Option File) (p : ℕ) → Known (delete_code_in o p)
-deleting none p = refl
-deleting (some g) p = either (some_of (sought p) g.records) _ _ refl refl
+deleting None p = refl
+deleting (Some g) p = either (some_of (sought p) g.records) _ _ refl refl
 
 finding-to-delete : (o : Option File) (key : List ℕ) → Known (find_delete_code_in o key)
-finding-to-delete none key = refl
-finding-to-delete (some g) key = either (ltb g.key_max (length key)) _ _ refl (either (some_of (keyed key) g.records) _ _ refl refl)
+finding-to-delete None key = refl
+finding-to-delete (Some g) key = either (ltb g.key_max (length key)) _ _ refl (either (some_of (keyed key) g.records) _ _ refl refl)
 
 spotted : (o : ℕ) (z : Option Spot) → Known (told o z).code
-spotted o none = either (ltb o 2) _ _ refl refl
-spotted o (some z) = refl
+spotted o None = either (ltb o 2) _ _ refl refl
+spotted o (Some z) = refl
 
 getting : (g : Option File) (p o : ℕ) → Known (get_in g p o).code
-getting none p o = refl
-getting (some g) p o = spotted o (seek_by o p g.records)
+getting None p o = refl
+getting (Some g) p o = spotted o (seek_by o p g.records)
 
 sighted : (z : Option Spot) → Known (found z).code
-sighted none = refl
-sighted (some z) = refl
+sighted None = refl
+sighted (Some z) = refl
 
 finding : (o : Option File) (key : List ℕ) → Known (find_in o key).code
-finding none key = refl
-finding (some g) key =
+finding None key = refl
+finding (Some g) key =
     split (ltb g.key_max (length key)) (λ t. rw t) (λ t. rw t (sighted (seek (keyed key) [] g.records)))
 
 -- ---- a whole command, of any type and with any data

@@ -1,8 +1,8 @@
 -- Every command keeps the plain list sound.
 use Prim.Native.Nat.{◌+◌, ◌<◌, suc, zero, ℕ, ◌≤◌}
+use Rattle.std.specs.Prelude.{Option, Some}
 use mathlib.Core.Bool.{Bool, cond, false, true}
 use mathlib.Core.List.{List, [], map, ◌∷◌}
-use mathlib.Core.Option.{Option, some}
 use mathlib.Core.Path.{ap, refl, sym, ◌∙◌, ◌≡◌}
 use native.Mathlib.Omega.{arith}
 use lib.Dec.{eqb, leb, ltb}
@@ -33,7 +33,7 @@ ids-kept : (h : List Record → List Record) (f m : ℕ) (s : List File) → cou
 ids-kept h f m [] = refl
 ids-kept h f m (g ∷ s) = split (called f g) (λ t. rw t (omega (arith, ids-kept h f m s))) (λ t. rw t (omega (arith, ids-kept h f m s)))
 
-files-kept : (h : List Record → List Record) (f : ℕ) (s : List File) → ((g : File) → look f s ≡ some g → SoundFile g → SoundFile (with_records g (h g.records)))
+files-kept : (h : List Record → List Record) (f : ℕ) (s : List File) → ((g : File) → look f s ≡ Some g → SoundFile g → SoundFile (with_records g (h g.records)))
     → All SoundFile s → ((m : ℕ) → count (called m) s ≤ 1) → All SoundFile (change h f s)
 files-kept h f [] step a c = tt
 files-kept h f (g ∷ s) step a c =
@@ -42,10 +42,10 @@ files-kept h f (g ∷ s) step a c =
     let n : 1 + count (called f) s ≤ 1 = rw t at (c f) in
     rw (t, change-none h f s (let y : count (called f) s ≡ 0 = omega arith in y)) (step g (rw t) a.0, a.1))
     (λ t.
-    let tail : (k : File) → look f s ≡ some k → SoundFile k → SoundFile (with_records k (h k.records)) = (λ k e. step k (let y : look f (g ∷ s) ≡ look f s = rw t in y ∙ e)) in
+    let tail : (k : File) → look f s ≡ Some k → SoundFile k → SoundFile (with_records k (h k.records)) = (λ k e. step k (let y : look f (g ∷ s) ≡ look f s = rw t in y ∙ e)) in
     rw t (a.0, files-kept h f s tail a.1 (λ m. omega (arith, c m))))
 
-sound-change : (h : List Record → List Record) (f : ℕ) (s : List File) → ((g : File) → look f s ≡ some g → SoundFile g → SoundFile (with_records g (h g.records))) → Sound s → Sound (change h f s)
+sound-change : (h : List Record → List Record) (f : ℕ) (s : List File) → ((g : File) → look f s ≡ Some g → SoundFile g → SoundFile (with_records g (h g.records))) → Sound s → Sound (change h f s)
 sound-change h f s step w = record { files = files-kept h f s step w.files w.ids; ids = λ m. omega (arith, ids-kept h f m s, w.ids m) }
 
 when-zero : (n : ℕ) (s t : List File) → Sound s → (n ≡ 0 → Sound t) → Sound (cond (eqb n 0) t s)
@@ -77,11 +77,11 @@ sound-delete-files s fs w =
     (λ e. record { files = all_keep SoundFile (not_of fs) s w.files; ids = λ m. omega (arith, w.ids m, count-keep (called m) (not_of fs) s) })
 
 -- ---- Add
-held_in : (f : ℕ) (s : List File) (g : File) → look f s ≡ some g → length g.records ≤ held s
+held_in : (f : ℕ) (s : List File) (g : File) → look f s ≡ Some g → length g.records ≤ held s
 held_in f [] g e = differ (cc)
 held_in f (k ∷ s) g e =
     split (called f k)
-    (λ t. let y : some k ≡ some g = rw t at e in let z : k ≡ g = cc in let v : length k.records ≡ length g.records = ap (λ (x : File). length x.records) z in omega arith)
+    (λ t. let y : Some k ≡ Some g = rw t at e in let z : k ≡ g = cc in let v : length k.records ≡ length g.records = ap (λ (x : File). length x.records) z in omega arith)
     (λ t. omega (arith, held_in f s g (rw t at e)))
 
 record AddFacts (s : List File) (g : File) (key d : List ℕ) : Type 0 where
@@ -90,7 +90,7 @@ record AddFacts (s : List File) (g : File) (key d : List ℕ) : Type 0 where
   twin : cond (ltb 0 g.key_max) (some_of (keyed key) g.records) false ≡ false
   room : held s < 256
 
-add-facts : (s : List File) (g : File) (key d : List ℕ) → add_code_in s (some g) key d ≡ 0 → AddFacts s g key d
+add-facts : (s : List File) (g : File) (key d : List ℕ) → add_code_in s (Some g) key d ≡ 0 → AddFacts s g key d
 add-facts s g key d e =
     split (ltb g.rec_max (length d))
     (λ t2. let z : ◌≡◌ {A = ℕ} record_too_large 0 = rw t2 at e in absurd (omega arith))
@@ -137,7 +137,7 @@ record UpdateFacts (g : File) (p : ℕ) (key d : List ℕ) : Type 0 where
   short : length key ≤ g.key_max
   twin : cond (ltb 0 g.key_max) (some_of (keyed key) (without (sought p) g.records)) false ≡ false
 
-update-facts : (g : File) (p : ℕ) (key d : List ℕ) → update_code_in (some g) p key d ≡ 0 → UpdateFacts g p key d
+update-facts : (g : File) (p : ℕ) (key d : List ℕ) → update_code_in (Some g) p key d ≡ 0 → UpdateFacts g p key d
 update-facts g p key d e =
     split (ltb g.rec_max (length d))
     (λ t2. let z : ◌≡◌ {A = ℕ} record_too_large 0 = rw t2 at e in absurd (omega arith))

@@ -1,6 +1,5 @@
 -- What a message's data part asks of the store, and what the response's data are (Tables 122 to 148).
-use Rattle.std.specs.Prelude.{◌%◌, ◌*◌, ◌+◌, ◌/◌, suc, zero, ℕ, ◌&&◌, Bool, cond, ◌++◌, List, [], ◌∷◌, eqb, leb, ltb, drop, get_or, length, take}
-use Rattle.std.proofs.Math.Option.{Option, none, some}
+use Rattle.std.specs.Prelude.{◌%◌, ◌*◌, ◌+◌, ◌/◌, suc, zero, ℕ, ◌&&◌, Bool, cond, ◌++◌, List, [], ◌∷◌, eqb, leb, ltb, drop, get_or, length, take, Option, Some, None}
 use Rattle.files.specs.Files.{File, Record, Sight, add, add_code, add_pointer, clear, clear_code, create, create_code, delete, delete_code, delete_files, delete_files_code, find, find_delete, find_delete_code, get, new_ids, update, update_code, update_pointer}
 use Rattle.lists.specs.Lists.{checks}
 use Rattle.tapa.specs.Codes.{add_record, clear_file, close_handler, create_file, delete_file, delete_record, find_and_delete, find_record, get_record, open_handler, successful, unsupported_operation, update_record}
@@ -84,8 +83,8 @@ words_of (x ∷ xs) = two_bytes x ++ words_of xs
 
 -- Tables 132 and 138: LEN_SKEY, Key Data, LEN_REC, Record Data, Record Pointer
 abbrev pub sight_bytes : Option Record → ℕ → List ℕ
-sight_bytes none p = []
-sight_bytes (some r) p = length r.key ∷ (r.key ++ (two_bytes (length r.bytes) ++ (r.bytes ++ two_bytes p)))
+sight_bytes None p = []
+sight_bytes (Some r) p = length r.key ∷ (r.key ++ (two_bytes (length r.bytes) ++ (r.bytes ++ two_bytes p)))
 
 abbrev pub seen_part : Sight → List ℕ
 seen_part z = carrying z.code (sight_bytes z.it z.pointer)

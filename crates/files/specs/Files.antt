@@ -1,6 +1,5 @@
 -- The data store as a plain list of files, each a list of records, oldest first; and what each command does to it.
-use Rattle.std.specs.Prelude.{◌+◌, suc, zero, ℕ, Bool, cond, false, not, true, ◌++◌, List, [], map, ◌∷◌, eqb, leb, ltb, length}
-use Rattle.std.proofs.Math.Option.{Option, none, some}
+use Rattle.std.specs.Prelude.{◌+◌, suc, zero, ℕ, Bool, cond, false, not, true, ◌++◌, List, [], map, ◌∷◌, eqb, leb, ltb, length, Option, Some, None}
 use Rattle.lists.specs.ByPlace.{turned_onto}
 use Rattle.lists.specs.Least.{least, same}
 use Rattle.lists.specs.Lists.{changed, checks, keep, some_of, without}
@@ -36,27 +35,27 @@ pub record Spot : Type 0 where
   pub newer : List Record
 
 abbrev pub spot : List Record → Record → List Record → Option Spot
-spot o x n = some (record { older = o; it = x; newer = n })
+spot o x n = Some (record { older = o; it = x; newer = n })
 
 -- the oldest record that passes
 abbrev pub seek : (Record → Bool) → List Record → List Record → Option Spot
-seek q o [] = none
+seek q o [] = None
 seek q o (x ∷ l) = cond (q x) (spot o x l) (seek q (x ∷ o) l)
 
 -- the newest record: the first of the list turned round
 abbrev pub newest : List Record → Option Spot
-newest [] = none
+newest [] = None
 newest (x ∷ o) = spot o x []
 
 -- ---- files in the store
 
 abbrev pub look : ℕ → List File → Option File
-look f [] = none
-look f (g ∷ l) = cond (eqb g.id f) (some g) (look f l)
+look f [] = None
+look f (g ∷ l) = cond (eqb g.id f) (Some g) (look f l)
 
 abbrev pub has_file : Option File → Bool
-has_file none = false
-has_file (some g) = true
+has_file None = false
+has_file (Some g) = true
 
 abbrev pub has : List File → ℕ → Bool
 has s f = has_file (look f s)
@@ -127,8 +126,8 @@ delete_files s fs = cond (eqb (delete_files_code s fs) successful) (keep (not_of
 -- the file, what the file allows, a key that is there, room; 'adding is refused ('FFF6') exactly when 256 records are held';
 -- 'In a keyed file (its key length is over 0) every key is compared, the empty one too, with all others of the file'
 abbrev pub add_code_in : List File → Option File → List ℕ → List ℕ → ℕ
-add_code_in s none key d = invalid_file_id
-add_code_in s (some g) key d =
+add_code_in s None key d = invalid_file_id
+add_code_in s (Some g) key d =
     checks
     ((ltb g.rec_max (length d), record_too_large)
     ∷ (ltb g.key_max (length key), search_key_too_large)
@@ -152,8 +151,8 @@ add s f key d = cond (eqb (add_code s f key d) successful) (change (with_record 
 
 -- 'Pointer to record within File'
 abbrev pub free_in : Option File → ℕ
-free_in none = 0
-free_in (some g) = free_pointer g.records
+free_in None = 0
+free_in (Some g) = free_pointer g.records
 
 abbrev pub add_pointer : List File → ℕ → List ℕ → List ℕ → ℕ
 add_pointer s f key d = cond (eqb (add_code s f key d) successful) (free_in (look f s)) 0
@@ -167,7 +166,7 @@ pub record Sight : Type 0 where
   pub pointer : ℕ
 
 abbrev pub unseen : ℕ → Sight
-unseen n = record { code = n; it = none; pointer = 0 }
+unseen n = record { code = n; it = None; pointer = 0 }
 
 -- ''0000' is an invalid record pointer, which may be returned when there is no next or previous record'
 abbrev pub pointer_of : List Record → ℕ
@@ -177,19 +176,19 @@ pointer_of (r ∷ l) = r.pointer
 -- ''00': Get the record, which was pointed to by the Record Pointer field', and ''01'' too; ''02': Get the first record in the file'; ''03': Get the last record in the file'
 abbrev pub seek_by : ℕ → ℕ → List Record → Option Spot
 seek_by o p rs =
-    cond (ltb o 2) (cond (eqb p 0) none (seek (sought p) [] rs)) (cond (eqb o 2) (seek (sought 0) [] rs) (newest (turned_onto [] rs)))
+    cond (ltb o 2) (cond (eqb p 0) None (seek (sought p) [] rs)) (cond (eqb o 2) (seek (sought 0) [] rs) (newest (turned_onto [] rs)))
 
 -- '00' and '02': 'the record pointer must be set to the next record'; else to the previous one
 abbrev pub nextward : ℕ → Bool
 nextward o = cond (eqb o 0) true (eqb o 2)
 
 abbrev pub told : ℕ → Option Spot → Sight
-told o none = unseen (cond (ltb o 2) invalid_record_pointer file_seek_error)
-told o (some z) = record { code = successful; it = some z.it; pointer = cond (nextward o) (pointer_of z.newer) (pointer_of z.older) }
+told o None = unseen (cond (ltb o 2) invalid_record_pointer file_seek_error)
+told o (Some z) = record { code = successful; it = Some z.it; pointer = cond (nextward o) (pointer_of z.newer) (pointer_of z.older) }
 
 abbrev pub get_in : Option File → ℕ → ℕ → Sight
-get_in none p o = unseen invalid_file_id
-get_in (some g) p o = told o (seek_by o p g.records)
+get_in None p o = unseen invalid_file_id
+get_in (Some g) p o = told o (seek_by o p g.records)
 
 abbrev pub get : List File → ℕ → ℕ → ℕ → Sight
 get s f p o = get_in (look f s) p o
@@ -198,8 +197,8 @@ get s f p o = get_in (look f s) p o
 
 -- the file, what the file allows, the pointer, a key that is there; 'Update may keep its record's own key'
 abbrev pub update_code_in : Option File → ℕ → List ℕ → List ℕ → ℕ
-update_code_in none p key d = invalid_file_id
-update_code_in (some g) p key d =
+update_code_in None p key d = invalid_file_id
+update_code_in (Some g) p key d =
     checks
     ((ltb g.rec_max (length d), record_too_large)
     ∷ (ltb g.key_max (length key), search_key_too_large)
@@ -220,12 +219,12 @@ update s f p key d = cond (eqb (update_code s f p key d) successful) (change (ch
 
 -- 'Update's response carries the record's own pointer'
 abbrev pub own_pointer : Option Spot → ℕ
-own_pointer none = 0
-own_pointer (some z) = z.it.pointer
+own_pointer None = 0
+own_pointer (Some z) = z.it.pointer
 
 abbrev pub pointer_in : Option File → ℕ → ℕ
-pointer_in none p = 0
-pointer_in (some g) p = own_pointer (seek (sought p) [] g.records)
+pointer_in None p = 0
+pointer_in (Some g) p = own_pointer (seek (sought p) [] g.records)
 
 abbrev pub update_pointer : List File → ℕ → ℕ → List ℕ → List ℕ → ℕ
 update_pointer s f p key d = cond (eqb (update_code s f p key d) successful) (pointer_in (look f s) p) 0
@@ -234,13 +233,13 @@ update_pointer s f p key d = cond (eqb (update_code s f p key d) successful) (po
 
 -- 'Pointer to retrieved record'; 'none found is 'FF56''
 abbrev pub found : Option Spot → Sight
-found none = unseen file_seek_error
-found (some z) = record { code = successful; it = some z.it; pointer = z.it.pointer }
+found None = unseen file_seek_error
+found (Some z) = record { code = successful; it = Some z.it; pointer = z.it.pointer }
 
 -- 'A key longer than the file's is 'FF53''
 abbrev pub find_in : Option File → List ℕ → Sight
-find_in none key = unseen invalid_file_id
-find_in (some g) key = cond (ltb g.key_max (length key)) (unseen search_key_too_large) (found (seek (keyed key) [] g.records))
+find_in None key = unseen invalid_file_id
+find_in (Some g) key = cond (ltb g.key_max (length key)) (unseen search_key_too_large) (found (seek (keyed key) [] g.records))
 
 abbrev pub find : List File → ℕ → List ℕ → Sight
 find s f key = find_in (look f s) key
@@ -249,8 +248,8 @@ find s f key = find_in (look f s) key
 
 -- ''0000' is the oldest record in Update and Delete ('FF50' in an empty file)'
 abbrev pub delete_code_in : Option File → ℕ → ℕ
-delete_code_in none p = invalid_file_id
-delete_code_in (some g) p = cond (some_of (sought p) g.records) successful invalid_record_pointer
+delete_code_in None p = invalid_file_id
+delete_code_in (Some g) p = cond (some_of (sought p) g.records) successful invalid_record_pointer
 
 abbrev pub delete_code : List File → ℕ → ℕ → ℕ
 delete_code s f p = delete_code_in (look f s) p
@@ -261,8 +260,8 @@ delete s f p = cond (eqb (delete_code s f p) successful) (change (without (sough
 -- ---- Find and Delete File Record (Tables 143 to 145)
 
 abbrev pub find_delete_code_in : Option File → List ℕ → ℕ
-find_delete_code_in none key = invalid_file_id
-find_delete_code_in (some g) key = cond (ltb g.key_max (length key)) search_key_too_large (cond (some_of (keyed key) g.records) successful file_seek_error)
+find_delete_code_in None key = invalid_file_id
+find_delete_code_in (Some g) key = cond (ltb g.key_max (length key)) search_key_too_large (cond (some_of (keyed key) g.records) successful file_seek_error)
 
 abbrev pub find_delete_code : List File → ℕ → List ℕ → ℕ
 find_delete_code s f key = find_delete_code_in (look f s) key

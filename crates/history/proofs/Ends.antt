@@ -1,10 +1,10 @@
 -- Each answered, given or swallowed outcome ends exactly one command, and a reply goes to the one that asked.
 use Prim.Native.Nat.{ℕ, ◌+◌}
+use Rattle.std.specs.Prelude.{Option, Some, None}
 use mathlib.Core.Path.{◌≡◌, refl, sym, ap, ◌∙◌}
 use mathlib.Core.Logic.{◌⊎◌, inl, inr}
 use mathlib.Core.Bool.{Bool, true, false}
 use mathlib.Core.List.{List, [], ◌∷◌}
-use mathlib.Core.Option.{Option, none, some}
 use native.Mathlib.Omega.{arith}
 use lib.ListN.{length}
 use borrow.Author.Tests.{eqb-true}
@@ -56,8 +56,8 @@ count-stood h q (c ∷ cs) = go (standing h c) (count-stood h q cs)
   where
     go : (o : Option Place) → count (λ (d : Sent). meets q (standing h d)) cs ≡ count q (stood h cs)
         → one (meets q o) + count (λ (d : Sent). meets q (standing h d)) cs ≡ count q (put o (stood h cs))
-    go none ih = omega arith
-    go (some p) ih = omega arith
+    go None ih = omega arith
+    go (Some p) ih = omega arith
 
 module _ (h : List Entry) (v : View) (c : Conduct v) (k : stood h (sent h) ≡ v.places) where
   ended-count : (o : Outcome) → length (ended h o) ≡ count (ends o) v.places
@@ -89,22 +89,22 @@ as-sent : (c y : Place) → (y ≡ c) ⊎ (y ≡ owing c) → (c.asker ≡ y.ask
 as-sent c y (inl e) = rw e (refl, refl, refl)
 as-sent c y (inr e) = rw e (refl, refl, refl)
 
-pub stood-in : (h : List Entry) (cs : List Sent) (d : Sent) (y : Place) → In d cs → standing h d ≡ some y → In y (stood h cs)
+pub stood-in : (h : List Entry) (cs : List Sent) (d : Sent) (y : Place) → In d cs → standing h d ≡ Some y → In y (stood h cs)
 stood-in h [] d y i e = absurd i
-stood-in h (c ∷ cs) d y (inl k) e = let e' : standing h c ≡ some y = rw k e in rw e' (inl refl)
+stood-in h (c ∷ cs) d y (inl k) e = let e' : standing h c ≡ Some y = rw k e in rw e' (inl refl)
 stood-in h (c ∷ cs) d y (inr i) e = go (standing h c) (stood-in h cs d y i e)
   where
     go : (o : Option Place) → In y (stood h cs) → In y (put o (stood h cs))
-    go none j = j
-    go (some p) j = inr j
+    go None j = j
+    go (Some p) j = inr j
 
 -- a command that stands somehow, and what passes of it
-pub met : (q : Place → Bool) (o : Option Place) → meets q o ≡ true → (y : Place) × (o ≡ some y) × (q y ≡ true)
-met q none e = clash false e refl
-met q (some y) e = (y, refl, e)
+pub met : (q : Place → Bool) (o : Option Place) → meets q o ≡ true → (y : Place) × (o ≡ Some y) × (q y ≡ true)
+met q None e = clash false e refl
+met q (Some y) e = (y, refl, e)
 
 module _ (h : List Entry) (v : View) (c : Conduct v) (k : stood h (sent h) ≡ v.places) (d : Sent) (i : In d (sent h)) where
-  standing-in : (y : Place) → standing h d ≡ some y → In y v.places
+  standing-in : (y : Place) → standing h d ≡ Some y → In y v.places
   standing-in y e = rw k at (stood-in h (sent h) d y i e)
 
   pub concerns : (s : Step) (o : Outcome) → Allowed v o → Went (entry s o) → meets (ends o) (standing h d) ≡ true → Concerns (entry s o) d

@@ -1,11 +1,11 @@
 -- What became of each passed command: it is open still, or was answered once, or given up once; and one given up is owed still, or was
 -- swallowed once, or ended by one replaced call.
 use Prim.Native.Nat.{◌+◌, ◌≤◌, ◌<◌}
+use Rattle.std.specs.Prelude.{Option, Some, None}
 use mathlib.Core.Path.{◌≡◌, refl, ap, ◌∙◌}
 use mathlib.Core.Logic.{inl, inr}
 use mathlib.Core.Bool.{Bool, true, false, ◌&&◌, cond}
 use mathlib.Core.List.{List, [], ◌∷◌}
-use mathlib.Core.Option.{Option, none, some}
 use native.Mathlib.Omega.{arith}
 use lib.ListN.{length}
 use borrow.Author.Tests.{not-true}
@@ -51,7 +51,7 @@ and_one false = refl
 
 -- given up, it is owed; else it is done with
 owes-on : (g : Bool) (p : Place)
-    → (one (meets is_open (cond g (some (owing p)) none)) ≡ 0) × (one (meets is_owed (cond g (some (owing p)) none)) ≡ one g)
+    → (one (meets is_open (cond g (Some (owing p)) None)) ≡ 0) × (one (meets is_owed (cond g (Some (owing p)) None)) ≡ one g)
 owes-on true p = (refl, refl)
 owes-on false p = (refl, refl)
 
@@ -87,13 +87,13 @@ newest e h c i = split (is_passed e.outcome) (λ p. rw (← in_one c new (rw p a
     new : Sent
     new = record { no = length h; command = place n.asker n.asked n.kind n.thread }
 
-    none : (q : Outcome → Bool) → times_ended q (e ∷ h) new ≡ 0
-    none q = none_yet q (e ∷ h) new (omega arith)
+    None : (q : Outcome → Bool) → times_ended q (e ∷ h) new ≡ 0
+    None q = none_yet q (e ∷ h) new (omega arith)
 
     own : Fate (e ∷ h) new
     own = record {
-      open-or-ended = rw (eqb_same (length h)) (omega (arith, none is_answered, none is_given));
-      owed-or-ended = rw (eqb_same (length h)) (omega (arith, none is_swallowed, none is_reset, none is_given));
+      open-or-ended = rw (eqb_same (length h)) (omega (arith, None is_answered, None is_given));
+      owed-or-ended = rw (eqb_same (length h)) (omega (arith, None is_swallowed, None is_reset, None is_given));
     }
 
 -- an entry after it
@@ -104,13 +104,13 @@ goes_on e h c n f = go (standing h c) refl
     here = older e h c n
 
     go : (o : Option Place) → standing h c ≡ o → Fate (e ∷ h) c
-    go none k =
-        let gone : standing (e ∷ h) c ≡ none = here ∙ ap (lives_on e.outcome) k in
+    go None k =
+        let gone : standing (e ∷ h) c ≡ None = here ∙ ap (lives_on e.outcome) k in
         record {
           open-or-ended = rw (gone, k) (omega (arith, rw k at f.open-or-ended, and_no (is_answered e.outcome), and_no (is_given e.outcome)));
           owed-or-ended = rw (gone, k) (omega (arith, rw k at f.owed-or-ended, and_no (is_swallowed e.outcome), and_no (is_reset e.outcome), and_no (is_given e.outcome)));
         }
-    go (some p) k =
+    go (Some p) k =
         let stands : standing (e ∷ h) c ≡ lives e.outcome p = here ∙ ap (lives_on e.outcome) k in
         record {
           open-or-ended = rw (stands, k) (omega (arith, rw k at f.open-or-ended, wait-goes e.outcome p));

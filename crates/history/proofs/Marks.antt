@@ -1,10 +1,10 @@
 -- A response that was not refused bears the mark of the command that it ends.
 use Prim.Native.Nat.{ℕ, ◌≤◌, ◌<◌}
+use Rattle.std.specs.Prelude.{Some}
 use mathlib.Core.Path.{◌≡◌, refl, sym, ap, ◌∙◌}
 use mathlib.Core.Logic.{inl, inr}
 use mathlib.Core.Bool.{Bool, true, false, ◌&&◌, ◌||◌, or-true}
 use mathlib.Core.List.{List, [], ◌∷◌}
-use mathlib.Core.Option.{some}
 use native.Mathlib.Omega.{arith}
 use lib.Dec.{eqb, ltb}
 use lib.ListN.{length}
@@ -33,7 +33,7 @@ use Rattle.history.proofs.Fates.{was}
 -- ---- the mark's address is that of the wait or of the owing
 
 -- a command stands with the address and the thread that it was sent with
-stands-addressed : (h : List Entry) (c : Sent) (a t : ℕ) (y : Place) → standing h c ≡ some y → addressed a t c.command ≡ true → addressed a t y ≡ true
+stands-addressed : (h : List Entry) (c : Sent) (a t : ℕ) (y : Place) → standing h c ≡ Some y → addressed a t c.command ≡ true → addressed a t y ≡ true
 stands-addressed h c a t y e p = elim (stands-as h c y e) [ inl k ↦ rw k p | inr k ↦ rw k p ]
 
 open-exactly : (a t : ℕ) (y : Place) → addressed a t y ≡ true → is_owed y ≡ false → asks_exactly a t y ≡ true
@@ -60,7 +60,7 @@ ended-else o y e g z =
 module _ (mark : ℕ → ℕ) where
   -- where a passed command has come to
   data Status (h : List Entry) (c : Sent) : Type 0 where
-    under-way : (y : Place) → standing h c ≡ some y → Status h c
+    under-way : (y : Place) → standing h c ≡ Some y → Status h c
     replied : used mark h c.no ≡ true → Status h c
     gone : replaced_since h c ≡ true → Status h c
 
@@ -68,11 +68,11 @@ module _ (mark : ℕ → ℕ) where
   Every h = (c : Sent) → In c (sent h) → Status h c
 
   module _ (h : List Entry) (v : View) (l : Conduct v) (k : stood h (sent h) ≡ v.places) where
-    counts : (q : Place → Bool) (c : Sent) (y : Place) → In c (sent h) → standing h c ≡ some y → q y ≡ true → 1 ≤ count q v.places
+    counts : (q : Place → Bool) (c : Sent) (y : Place) → In c (sent h) → standing h c ≡ Some y → q y ≡ true → 1 ≤ count q v.places
     counts q c y i e p = in_count q y v.places p (rw k at (stood-in h (sent h) c y i e))
 
     -- a command that the outcome ends is the one that it ends
-    ended_is : (o : Outcome) → Allowed v o → ends_one o ≡ true → (c : Sent) (y : Place) → In c (sent h) → standing h c ≡ some y → ends o y ≡ true
+    ended_is : (o : Outcome) → Allowed v o → ends_one o ≡ true → (c : Sent) (y : Place) → In c (sent h) → standing h c ≡ Some y → ends o y ≡ true
         → ended h o ≡ c ∷ []
     ended_is o a z c y i e p =
         let d = one_ended h v l k o a z in
@@ -80,7 +80,7 @@ module _ (mark : ℕ → ℕ) where
         d.1 ∙ ap (λ (x : Sent). x ∷ []) (in_one c d.0 (rw d.1 at j))
 
     -- the command that the mark names is open or owed, and it is what the response ends
-    bears-it : (o : Outcome) → Allowed v o → is_reply o ≡ true → (c : Sent) (y : Place) → In c (sent h) → standing h c ≡ some y → fits o c.command ≡ true
+    bears-it : (o : Outcome) → Allowed v o → is_reply o ≡ true → (c : Sent) (y : Place) → In c (sent h) → standing h c ≡ Some y → fits o c.command ≡ true
         → ended h o ≡ c ∷ []
     bears-it o a z c y i e f =
         let n = named o in
@@ -131,8 +131,8 @@ module _ (mark : ℕ → ℕ) where
           let n : mark (length h) ≡ c.no = sym d.2 ∙ ap (λ (x : Sent). x.no) same in
           rw (z, eq-eqb (mark (length h)) c.no n)
 
-      module _ (y : Place) (e : standing h c ≡ some y) where
-        stands : (o : Outcome) (z : Place) → lives o y ≡ some z → Status (on o) c
+      module _ (y : Place) (e : standing h c ≡ Some y) where
+        stands : (o : Outcome) (z : Place) → lives o y ≡ Some z → Status (on o) c
         stands o z q = under-way z (older (entry s o) h c number ∙ ap (lives_on o) e ∙ q)
 
         same_asked : (a : ℕ) → asks a y ≡ true → asks a c.command ≡ true

@@ -1,10 +1,11 @@
 -- No response and no Add Event is ever passed, and Add Event is an event or 10.
 use Prim.Native.Nat.{ℕ}
+use Rattle.tapa.specs.declared.Refusal.{Refusal}
+use Rattle.std.specs.Prelude.{Some, None, Result, Ok, Err, Option}
 use mathlib.Core.Path.{◌≡◌, refl, sym, ap, ◌∙◌}
 use mathlib.Core.Logic.{inl, inr, ⊎_elim}
 use mathlib.Core.Bool.{true, false}
 use mathlib.Core.List.{List, [], ◌∷◌}
-use mathlib.Core.Option.{Option, none, some}
 use lib.Dec.{eqb, ltb}
 use lib.ListN.{get_or}
 use borrow.Author.Tests.{eq-eqb}
@@ -16,11 +17,7 @@ use Rattle.tapa.specs.Address.{handler_of}
 use Rattle.tapa.specs.Codes.{response, event_handler}
 use Rattle.tapa.specs.Numbers.{word_at}
 use Rattle.tapa.specs.declared.Refusal.TheVariants.{HoldsAQuestion}
-use Rattle.message.specs.declared.Coded.{Coded}
-use Rattle.message.specs.declared.Coded.TheVariants.{Code, Missing}
 use Rattle.message.specs.declared.Head.{Head}
-use Rattle.message.specs.declared.Reading.{Reading}
-use Rattle.message.specs.declared.Reading.TheVariants.{Message, Refused as Unread}
 use Rattle.message.specs.Message.{head_of, read_checks, read_of, part_of, code_of}
 use Rattle.message.proofs.Laws.{whole}
 use Rattle.place.specs.declared.Place.{Place}
@@ -48,7 +45,7 @@ queue-handler a t = ⊎_elim (λ e. rw e) (λ e. rw e) t
 abbrev Told : Outcome → Type 0
 Told o = In (said_outcome o) event_answers
 
-module _ (v : View) (code : Coded) where
+module _ (v : View) (code : Option ℕ) where
   kind-told : (h : Head) → h.kind ≡ 0xC0 → ToQueue h.destination → Told (judge_kind v h code)
   unfolding judge_kind
   kind-told h k t =
@@ -58,7 +55,7 @@ module _ (v : View) (code : Coded) where
   read_told : (s : List ℕ) → AddsEvent s → Told (judge_read v (read_of s) code)
   unfolding read_of judge_read
   read_told s a =
-      checks-are (λ (r : Reading). Told (judge_read v r code)) (read_checks s) (Message (head_of s))
+      checks-are (λ (r : Result Head Refusal). Told (judge_read v r code)) (read_checks s) (Ok (head_of s))
       (inr (inr (inr (inl refl))), (inr (inr (inr (inr (inl refl)))), (inr (inr (inr (inr (inr (inl refl))))), (inr (inr (inr (inr (inr (inr (inl refl)))))), tt))))
       (λ _.
       checks-are Told (common_tests v.rows (head_of s)) (judge_kind v (head_of s) code)
@@ -85,14 +82,14 @@ Passing (Given asker asked t) = Unit {0}
 Passing (Reset h) = Unit {0}
 Passing (Refused r) = Unit {0}
 
-response-passing : (places : List Place) (h : Head) (coded : Coded) → Passing (judge_response places h coded)
+response-passing : (places : List Place) (h : Head) (coded : Option ℕ) → Passing (judge_response places h coded)
 unfolding judge_response reply late
-response-passing places h Missing = tt
-response-passing places h (Code code) = go (answerable places h.source h.thread)
+response-passing places h None = tt
+response-passing places h (Some code) = go (answerable places h.source h.thread)
   where
     go : (o : Option Place) → Passing (reply places o h code)
-    go none = split (some_of (owes_exactly h.source h.thread) places) (λ p. rw p tt) (λ p. rw p tt)
-    go (some w) = checks-are Passing (reply_tests places w h) (Answered h.source h.destination h.thread code) (tt, (tt, tt)) (λ _. tt)
+    go None = split (some_of (owes_exactly h.source h.thread) places) (λ p. rw p tt) (λ p. rw p tt)
+    go (Some w) = checks-are Passing (reply_tests places w h) (Answered h.source h.destination h.thread code) (tt, (tt, tt)) (λ _. tt)
 
 module _ (v : View) (h : Head) where
   command-passing : eqb h.kind response ≡ false → is_add_event h ≡ false → Passing (judge_command v h)
@@ -100,7 +97,7 @@ module _ (v : View) (h : Head) where
       command-is v h Passing (λ code i. tt)
       (λ _. (λ e. clash (eqb h.kind response) (eq-eqb h.kind response e) n, λ e t. clash (is_add_event h) (rw (e, queue-handler h.destination t)) m))
 
-  kind-passing : (code : Coded) → Passing (judge_kind v h code)
+  kind-passing : (code : Option ℕ) → Passing (judge_kind v h code)
   unfolding judge_kind
   kind-passing code =
       split (eqb h.kind response) (λ p. rw p (response-passing v.places h code))
@@ -108,10 +105,10 @@ module _ (v : View) (h : Head) where
       (λ q. rw q (split (opened_at event_handler v.rows) (λ b. rw b tt) (λ b. rw b tt)))
       (λ q. rw q (command-passing p q))))
 
-read-passing : (v : View) (r : Reading) (code : Coded) → Passing (judge_read v r code)
+read-passing : (v : View) (r : Result Head Refusal) (code : Option ℕ) → Passing (judge_read v r code)
 unfolding judge_read
-read-passing v (Unread r) code = tt
-read-passing v (Message h) code = checks-are Passing (common_tests v.rows h) (judge_kind v h code) (tt, (tt, tt)) (λ _. kind-passing v h code)
+read-passing v (Err r) code = tt
+read-passing v (Ok h) code = checks-are Passing (common_tests v.rows h) (judge_kind v h code) (tt, (tt, tt)) (λ _. kind-passing v h code)
 
 message-passing : (v : View) (room : ℕ) (s : List ℕ) → Passing (judge_message v room s)
 unfolding judge_message
@@ -120,8 +117,8 @@ message-passing v room s = split (ltb room 10) (λ p. rw p tt) (λ p. rw p (read
 -- a give up and a replaced call pass nothing
 yields-passing : (places : List Place) (o : Option Place) (t a : ℕ) → Passing (yields places o t a)
 unfolding yields
-yields-passing places none t a = tt
-yields-passing places (some w) t a = checks-are Passing ((holding places a t, Refused HoldsAQuestion) ∷ []) (Given w.asker a t) (tt, tt) (λ _. tt)
+yields-passing places None t a = tt
+yields-passing places (Some w) t a = checks-are Passing ((holding places a t, Refused HoldsAQuestion) ∷ []) (Given w.asker a t) (tt, tt) (λ _. tt)
 
 passing : (v : View) (room : ℕ) (c : Call) → Passing (judge v room c)
 unfolding judge_give_up judge_replaced
@@ -135,10 +132,10 @@ passing v room (replaced a) =
 -- ---- in a history
 
 -- of the message's bytes
-read-passed : (s : List ℕ) (asker asked kind t : ℕ) (r : Reading) → read_of s ≡ r → ReadSays r (code_of (part_of s)) (Passed asker asked kind t)
+read-passed : (s : List ℕ) (asker asked kind t : ℕ) (r : Result Head Refusal) → read_of s ≡ r → ReadSays r (code_of (part_of s)) (Passed asker asked kind t)
     → (get_or s 4 0 ≡ kind) × (word_at s 0 ≡ asked)
-read-passed s asker asked kind t (Unread r) e y = clash false y refl
-read-passed s asker asked kind t (Message h) e y =
+read-passed s asker asked kind t (Err r) e y = clash false y refl
+read-passed s asker asked kind t (Ok h) e y =
     let k = (whole s h e).head in (ap (λ (x : Head). x.kind) (sym k) ∙ y.2, ap (λ (x : Head). x.destination) (sym k) ∙ y.1)
 
 -- an entry of a call with a passed outcome is a message that may be passed
@@ -166,11 +163,11 @@ pub passed_is : (v : View) (s : Step) → is_passed (judge v s.room s.call) ≡ 
 passed_is v s w = is-command s s.call (judge v s.room s.call) refl (says v s.room s.call) (passing v s.room s.call) w
 
 -- and it is sent as its bytes say
-sent-so : (s : Step) (b : List ℕ) (asker asked kind t n : ℕ) (r : Reading) → s.call ≡ message b → read_of b ≡ r
+sent-so : (s : Step) (b : List ℕ) (asker asked kind t n : ℕ) (r : Result Head Refusal) → s.call ≡ message b → read_of b ≡ r
     → ReadSays r (code_of (part_of b)) (Passed asker asked kind t)
     → SentAs (entry s (Passed asker asked kind t)) n (record { no = n; command = place asker asked kind t })
-sent-so s b asker asked kind t n (Unread r) c e y = clash false y refl
-sent-so s b asker asked kind t n (Message h) c e y =
+sent-so s b asker asked kind t n (Err r) c e y = clash false y refl
+sent-so s b asker asked kind t n (Ok h) c e y =
     let k = (whole b h e).head in record {
       bytes = b;
       call = c;

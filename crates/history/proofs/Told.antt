@@ -1,10 +1,10 @@
 -- The history tells the state: the places are the commands that are open or owed, in order.
 use Prim.Native.Nat.{ℕ, suc, ◌≤◌, ◌<◌}
+use Rattle.std.specs.Prelude.{Option, Some, None}
 use mathlib.Core.Path.{◌≡◌, refl, sym, ap, ◌∙◌}
 use mathlib.Core.Logic.{◌⊎◌, inl, inr}
 use mathlib.Core.Bool.{Bool, true, false, cond}
 use mathlib.Core.List.{List, [], ◌∷◌, ◌++◌, map}
-use mathlib.Core.Option.{Option, none, some}
 use native.Mathlib.Omega.{arith}
 use lib.Dec.{eqb}
 use lib.ListN.{length, length-map}
@@ -57,7 +57,7 @@ sent-open (e ∷ h) = starts-then Opened (length h) e.outcome (sent h) (λ a b k
 pub older : (e : Entry) (h : List Entry) (c : Sent) → c.no < length h → standing (e ∷ h) c ≡ lives_on e.outcome (standing h c)
 older e h c k = rw (ne_eqb c.no (length h) (λ q. omega arith))
 
-pub unsent : (h : List Entry) (c : Sent) → length h ≤ c.no → standing h c ≡ none
+pub unsent : (h : List Entry) (c : Sent) → length h ≤ c.no → standing h c ≡ None
 unsent [] c k = refl
 unsent (e ∷ h) c k = rw (ne_eqb c.no (length h) (λ q. omega arith), unsent h c (omega arith))
 
@@ -74,8 +74,8 @@ stood-moves e h (c ∷ cs) a =
   where
     go : (o : Option Place)
         → put (lives_on e.outcome o) (collect (lives e.outcome) (stood h cs)) ≡ collect (lives e.outcome) (put o (stood h cs))
-    go none = refl
-    go (some p) = refl
+    go None = refl
+    go (Some p) = refl
 
 -- ---- what an outcome does to the places is what it does to the commands, one by one
 
@@ -113,16 +113,16 @@ told rows (s ∷ steps) =
 
 -- ---- a command stands as it was sent, or as owed
 
-lived : (q g : Bool) (p y : Place) → cond q (cond g (some (owing p)) none) (some p) ≡ some y → (y ≡ p) ⊎ (y ≡ owing p)
+lived : (q g : Bool) (p y : Place) → cond q (cond g (Some (owing p)) None) (Some p) ≡ Some y → (y ≡ p) ⊎ (y ≡ owing p)
 lived true true p y e = let k : owing p ≡ y = cc in inr (sym k)
 lived true false p y e = differ (cc)
 lived false g p y e = let k : p ≡ y = cc in inl (sym k)
 
-pub stands-as : (h : List Entry) (c : Sent) (y : Place) → standing h c ≡ some y → (y ≡ c.command) ⊎ (y ≡ owing c.command)
+pub stands-as : (h : List Entry) (c : Sent) (y : Place) → standing h c ≡ Some y → (y ≡ c.command) ⊎ (y ≡ owing c.command)
 stands-as [] c y e = differ (cc)
 stands-as (e ∷ h) c y k =
     split (eqb c.no (length h))
-    (λ b. let k' : some c.command ≡ some y = rw b at k in let m : c.command ≡ y = cc in inl (sym m))
+    (λ b. let k' : Some c.command ≡ Some y = rw b at k in let m : c.command ≡ y = cc in inl (sym m))
     (λ b. go (standing h c) (stands-as h c) (rw b at k))
   where
     on : (p : Place) → (y ≡ p) ⊎ (y ≡ owing p) → (p ≡ c.command) ⊎ (p ≡ owing c.command) → (y ≡ c.command) ⊎ (y ≡ owing c.command)
@@ -131,22 +131,22 @@ stands-as (e ∷ h) c y k =
     on p (inr a) (inl b) = inr (a ∙ ap owing b)
     on p (inr a) (inr b) = inr (a ∙ ap owing b)
 
-    go : (o : Option Place) → ((z : Place) → o ≡ some z → (z ≡ c.command) ⊎ (z ≡ owing c.command)) → lives_on e.outcome o ≡ some y
+    go : (o : Option Place) → ((z : Place) → o ≡ Some z → (z ≡ c.command) ⊎ (z ≡ owing c.command)) → lives_on e.outcome o ≡ Some y
         → (y ≡ c.command) ⊎ (y ≡ owing c.command)
-    go none ih m = differ (cc)
-    go (some p) ih m = on p (lived (ends e.outcome p) (is_given e.outcome) p y m) (ih p refl)
+    go None ih m = differ (cc)
+    go (Some p) ih m = on p (lived (ends e.outcome p) (is_given e.outcome) p y m) (ih p refl)
 
-open-as : (h : List Entry) (c : Sent) (y : Place) → standing h c ≡ some y → is_open y ≡ true → y ≡ c.command
+open-as : (h : List Entry) (c : Sent) (y : Place) → standing h c ≡ Some y → is_open y ≡ true → y ≡ c.command
 open-as h c y e o = elim (stands-as h c y e) [ inl k ↦ k | inr k ↦ clash (is_open y) o (ap is_open k) ]
 
-owed-as : (h : List Entry) (c : Sent) (y : Place) → standing h c ≡ some y → Opened c → is_owed y ≡ true → y ≡ owing c.command
+owed-as : (h : List Entry) (c : Sent) (y : Place) → standing h c ≡ Some y → Opened c → is_owed y ≡ true → y ≡ owing c.command
 owed-as h c y e s o = elim (stands-as h c y e) [ inl k ↦ clash (is_open y) (ap is_open k ∙ s) (rw o) | inr k ↦ k ]
 
 -- ---- the waits are the open commands, the owings are the owed ones, in order
 
 -- of some commands, those that a test picks: as places, and as commands
 module _ (h : List Entry) (q : Place → Bool) (f : Sent → Place) where
-  picked : (cs : List Sent) → All (λ (c : Sent). (y : Place) → standing h c ≡ some y → q y ≡ true → y ≡ f c) cs
+  picked : (cs : List Sent) → All (λ (c : Sent). (y : Place) → standing h c ≡ Some y → q y ≡ true → y ≡ f c) cs
       → keep q (stood h cs) ≡ map f (keep (λ (c : Sent). meets q (standing h c)) cs)
   picked [] a = refl
   picked (c ∷ cs) a = go (standing h c) refl (picked cs a.1)
@@ -154,8 +154,8 @@ module _ (h : List Entry) (q : Place → Bool) (f : Sent → Place) where
       go : (o : Option Place) → standing h c ≡ o
           → keep q (stood h cs) ≡ map f (keep (λ (d : Sent). meets q (standing h d)) cs)
           → keep q (put o (stood h cs)) ≡ map f (cond (meets q o) (c ∷ keep (λ (d : Sent). meets q (standing h d)) cs) (keep (λ (d : Sent). meets q (standing h d)) cs))
-      go none e ih = ih
-      go (some y) e ih = split (q y) (λ b. rw (b, ih, a.0 y e b)) (λ b. rw b ih)
+      go None e ih = ih
+      go (Some y) e ih = split (q y) (λ b. rw (b, ih, a.0 y e b)) (λ b. rw b ih)
 
 pub waits-told : (rows : List Row) (steps : List Step) → waits (view_after rows steps).places ≡ as_waits (open_in (history rows steps))
 waits-told rows steps =

@@ -1,5 +1,8 @@
 -- What went out: a response to the asker, from the asked address, on the thread, with the code.
 use Prim.Native.Nat.{ℕ}
+use Rattle.tapa.specs.declared.Refusal.{Refusal}
+use Rattle.message.specs.declared.Head.{Head}
+use Rattle.std.specs.Prelude.{Result, Ok, Err}
 use mathlib.Core.Path.{◌≡◌, refl}
 use mathlib.Core.Logic.{inl, inr}
 use mathlib.Core.Bool.{true, false}
@@ -8,8 +11,6 @@ use lib.ListN.{replicate, take}
 use Rattle.tapa.specs.Codes.{handler_error}
 use Rattle.lists.specs.Lists.{onto}
 use Rattle.lists.proofs.Tests.{clash, differ}
-use Rattle.message.specs.declared.Reading.{Reading}
-use Rattle.message.specs.declared.Reading.TheVariants.{Message, Refused as Unread}
 use Rattle.message.specs.Message.{read_of, part_of, code_of, message_of, response_of}
 use Rattle.message.proofs.Back.{reads-response, code-response}
 use Rattle.rules.specs.declared.Outcome.{Outcome}
@@ -19,10 +20,10 @@ use Rattle.rules.specs.Says.{ReadSays, Says}
 use Rattle.history.specs.History.{Step, entry, bytes_of, goes_out, replies, named, Reply, Went}
 
 -- a response that goes on is itself the reply
-read-reply : (s : List ℕ) (asked asker t k : ℕ) (r : Reading) → read_of s ≡ r → ReadSays r (code_of (part_of s)) (Answered asked asker t k)
+read-reply : (s : List ℕ) (asked asker t k : ℕ) (r : Result Head Refusal) → read_of s ≡ r → ReadSays r (code_of (part_of s)) (Answered asked asker t k)
     → Reply s asker asked t k
-read-reply s asked asker t k (Unread r) e y = clash false y refl
-read-reply s asked asker t k (Message h) e y =
+read-reply s asked asker t k (Err r) e y = clash false y refl
+read-reply s asked asker t k (Ok h) e y =
     record { head = h; read = e; to-asker = y.2; from-asked = y.1; kind = y.0; on-thread = y.3; with_code = y.4 }
 
 passed_on : (c : Call) (asked asker t k : ℕ) → Says c (Answered asked asker t k) → Reply (bytes_of c) asker asked t k

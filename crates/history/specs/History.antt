@@ -1,13 +1,10 @@
 -- How far each contract reaches: 'Demand 3's history lists all calls since the fresh router, with bytes and outcomes.'
-use Rattle.std.specs.Prelude.{ℕ, ◌+◌, ◌≡◌, Bool, true, false, ◌&&◌, ◌||◌, cond, List, [], ◌∷◌, ◌++◌, map, eqb, length, replicate}
-use Rattle.std.proofs.Math.Option.{Option, none, some}
+use Rattle.std.specs.Prelude.{ℕ, ◌+◌, ◌≡◌, Bool, true, false, ◌&&◌, ◌||◌, cond, List, [], ◌∷◌, ◌++◌, map, eqb, length, replicate, Some, Ok, Option, None}
 use Rattle.lists.specs.Lists.{one, count, keep}
 use Rattle.tapa.specs.Address.{handler_of}
 use Rattle.tapa.specs.Codes.{response, handler_error}
 use Rattle.tapa.specs.Said.{has_word, passed, answered, swallowed, turned, given, reset}
 use Rattle.message.specs.declared.Head.{Head}
-use Rattle.message.specs.declared.Reading.TheVariants.{Message}
-use Rattle.message.specs.declared.Coded.TheVariants.{Code}
 use Rattle.message.specs.Message.{read_of, part_of, code_of}
 use Rattle.table.specs.declared.Row.{Row}
 use Rattle.place.specs.declared.Place.{Place}
@@ -139,20 +136,20 @@ ends o p =
 
 -- what an outcome makes of a command that is open or owed; none: it is done with
 abbrev pub lives : Outcome → Place → Option Place
-lives o p = cond (ends o p) (cond (is_given o) (some (owing p)) none) (some p)
+lives o p = cond (ends o p) (cond (is_given o) (Some (owing p)) None) (Some p)
 
 abbrev pub lives_on : Outcome → Option Place → Option Place
-lives_on o none = none
-lives_on o (some p) = lives o p
+lives_on o None = None
+lives_on o (Some p) = lives o p
 
 -- how a command stands at the end of a history: open, owed, or none
 abbrev pub standing : List Entry → Sent → Option Place
-standing [] c = none
-standing (e ∷ h) c = cond (eqb c.no (length h)) (some c.command) (lives_on e.outcome (standing h c))
+standing [] c = None
+standing (e ∷ h) c = cond (eqb c.no (length h)) (Some c.command) (lives_on e.outcome (standing h c))
 
 abbrev pub meets : (Place → Bool) → Option Place → Bool
-meets q none = false
-meets q (some p) = q p
+meets q None = false
+meets q (Some p) = q p
 
 -- the open commands and the owed ones, the newest first
 abbrev pub open_in : List Entry → List Sent
@@ -191,12 +188,12 @@ pub record Fate (h : List Entry) (c : Sent) : Type 0 where
 -- bytes that are a response: to the asker, from the asked address, on the thread, with the code
 pub record Reply (bytes : List ℕ) (asker asked t code : ℕ) : Type 0 where
   pub head : Head
-  pub read : read_of bytes ≡ Message head
+  pub read : read_of bytes ≡ Ok head
   pub to-asker : head.destination ≡ asker
   pub from-asked : head.source ≡ asked
   pub kind : head.kind ≡ response
   pub on-thread : head.thread ≡ t
-  pub with_code : code_of (part_of bytes) ≡ Code code
+  pub with_code : code_of (part_of bytes) ≡ Some code
 
 -- an entry's bytes are the part to send; an answered reply's, a give up's and a turned command's are the response that the outcome names
 pub record Went (e : Entry) : Type 0 where

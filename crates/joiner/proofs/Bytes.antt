@@ -1,11 +1,12 @@
 -- The page's bytes, written out: Get Next, what is put to a response, and the joiner that holds nothing.
 use Prim.Native.Nat.{ℕ, ◌/◌, ◌%◌, ◌≤◌, ◌<◌}
+use Rattle.tapa.specs.declared.Refusal.{Refusal}
+use Rattle.std.specs.Prelude.{Result}
 use mathlib.Core.Path.{◌≡◌, refl, ◌∙◌}
 use mathlib.Core.Bool.{false}
 use mathlib.Core.List.{List, [], ◌∷◌, ◌++◌}
 use lib.ListN.{length, drop}
 use borrow.Author.Tests.{lt-ltb, le-ltb}
-use Rattle.message.specs.declared.Writing.{Writing}
 use Rattle.joiner.specs.Joining.{fresh_joiner, completed, Asks}
 
 -- nothing is joined, and no thread has a source
@@ -22,7 +23,7 @@ unfolding completed
 completed-bytes source m = refl
 
 -- Table 116, at the start of a buffer that has the five bytes; one that has not stays
-module _ (thread : ℕ) (b a : List ℕ) (w : Writing) (asks : Asks thread b a w) where
+module _ (thread : ℕ) (b a : List ℕ) (w : Result ℕ Refusal) (asks : Asks thread b a w) where
   pub asked : 5 ≤ length b → a ≡ 0xB0 ∷ 0xFC ∷ thread ∷ 0x00 ∷ 0x00 ∷ drop 5 b
   asked l = asks.buffer ∙ rw (le-ltb (length b) 5 l)
 

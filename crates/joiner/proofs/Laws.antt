@@ -1,5 +1,7 @@
 -- Laws of the joiner's definitions: what a piece and the whole are, check by check, and what is written.
 use Prim.Native.Nat.{ℕ, ◌+◌, ◌*◌, ◌-◌, ◌/◌, ◌%◌, ◌≤◌, ◌<◌}
+use Rattle.message.specs.declared.Head.{Head}
+use Rattle.std.specs.Prelude.{Result, Ok, Err}
 use mathlib.Core.Path.{◌≡◌, refl, sym, ap, ◌∙◌}
 use mathlib.Core.Bool.{Bool, true, false, not, cond, ◌&&◌, ◌||◌}
 use mathlib.Core.List.{List, [], ◌∷◌, ◌++◌}
@@ -20,8 +22,6 @@ use Rattle.tapa.specs.declared.Refusal.{Refusal}
 use Rattle.tapa.specs.declared.Refusal.TheVariants.{TooShort, TooLong, FewerThanAnnounced, ThreadAbove7, BufferTooSmall, NoSourceKept, StatusNotUsable, MoreThanAnnounced}
 use Rattle.message.specs.Message.{head_of}
 use Rattle.message.specs.Said.{said_writing}
-use Rattle.message.specs.declared.Reading.{Reading}
-use Rattle.message.specs.declared.Writing.TheVariants.{Written, Refused as Unwritten}
 use Rattle.message.proofs.Laws.{through-reading}
 use Rattle.joiner.specs.declared.Joiner.{Joiner}
 use Rattle.joiner.specs.declared.Taking.{Taking}
@@ -317,8 +317,8 @@ pub said-keeping : (j : Joiner) (s : List ℕ) → said_keeping (kept_of j s).an
     ∷ [])
     (says kept [])
 unfolding kept_of
-said-keeping j s = through-reading (λ (r : Reading). said_keeping (keeping_on r)) _ s (checks-said said_keeping (keep_checks (head_of s)) Done)
+said-keeping j s = through-reading (λ (r : Result Head Refusal). said_keeping (keeping_on r)) _ s (checks-said said_keeping (keep_checks (head_of s)) Done)
 
 -- 9; else Get Next is written
 pub said-asking : (b : List ℕ) → said_writing (asking_of b) ≡ checks ((ltb (length b) 5, refused 9) ∷ []) (says written (5 ∷ []))
-said-asking b = checks-said said_writing ((ltb (length b) 5, Unwritten BufferTooSmall) ∷ []) (Written 5)
+said-asking b = checks-said said_writing ((ltb (length b) 5, Err BufferTooSmall) ∷ []) (Ok 5)

@@ -1,10 +1,11 @@
 -- Each contract of psam_pieces, psam_whole and psam_sources leaves one answer possible, with one next state and one content of the lent buffer.
 -- `fresh`, `judge` and `keep` ensure an equation with a definition: two answers are then equal by it.
 use mathlib.Core.Path.{◌≡◌, sym, ◌∙◌}
+use Rattle.tapa.specs.declared.Refusal.{Refusal}
+use Rattle.std.specs.Prelude.{Result}
 use mathlib.Core.List.{List}
 use Prim.Native.Nat.{ℕ}
 use denote.Ref.{Bor}
-use Rattle.message.specs.declared.Writing.{Writing}
 use Rattle.joiner.specs.declared.Joiner.{Joiner}
 use Rattle.joiner.specs.declared.Joined.{Joined}
 use Rattle.joiner.specs.declared.Answer.{Answer}
@@ -16,7 +17,7 @@ one-join j piece before a a' r r' x y = (
   x.buffer ∙ sym y.buffer,
 )
 
-pub one-get-next : (thread : ℕ) (before a a' : List ℕ) (w w' : Writing) → Asks thread before a w → Asks thread before a' w' → (w ≡ w') × (a ≡ a')
+pub one-get-next : (thread : ℕ) (before a a' : List ℕ) (w w' : Result ℕ Refusal) → Asks thread before a w → Asks thread before a' w' → (w ≡ w') × (a ≡ a')
 one-get-next thread before a a' w w' x y = (x.answer ∙ sym y.answer, x.buffer ∙ sym y.buffer)
 
 -- what can be seen of a part: its bytes and where they stand

@@ -1,9 +1,9 @@
 -- Where a response goes: after any calls from a fresh joiner, to the source of the last '42' command that was kept on its thread.
 use Prim.Native.Nat.{ℕ, ◌+◌, ◌≤◌}
+use Rattle.std.specs.Prelude.{Some, None}
 use mathlib.Core.Path.{◌≡◌, refl, ◌∙◌}
 use mathlib.Core.Bool.{Bool, true, false, cond}
 use mathlib.Core.List.{List, ◌++◌}
-use mathlib.Core.Option.{none, some}
 use lib.ListN.{length, get_or}
 use native.Mathlib.Omega.{arith}
 use Rattle.lists.specs.Lists.{All}
@@ -16,7 +16,7 @@ use Rattle.joiner.specs.Sources.{Call, joiner_after, last_source}
 use Rattle.joiner.proofs.Delivered.{response-delivered}
 use Rattle.joiner.proofs.Sources.{fresh-last-kept}
 
-held : (b : Bool) (x s : ℕ) → cond b (some x) none ≡ some s → (b ≡ true) × (x ≡ s)
+held : (b : Bool) (x s : ℕ) → cond b (Some x) None ≡ Some s → (b ≡ true) × (x ≡ s)
 held true x s e = (refl, cc)
 held false x s e = absurd (let z : ◌≡◌ {A = ℕ} 0 1 = cc in omega arith)
 
@@ -24,7 +24,7 @@ held false x s e = absurd (let z : ◌≡◌ {A = ℕ} 0 1 = cc in omega arith)
 pub response-to-last : (calls : List Call) (first : List ℕ) (rest : List (List ℕ)) (b : List ℕ) → (joiner_after fresh_joiner calls).joined ≡ 0
     → Small first → All Small rest → 1032 ≤ length b
     → (destination source thread s : ℕ) (part : List ℕ) → thread ≤ 7 → length part + 2 ≤ 1024
-    → last_source calls thread none ≡ some s → together first rest ≡ response_sent destination source thread part
+    → last_source calls thread None ≡ Some s → together first rest ≡ response_sent destination source thread part
     → Delivers (joiner_after fresh_joiner calls) first rest (message_of s source response thread (part ++ two_bytes successful)) b
 response-to-last calls first rest b idle small smalls room destination source thread s part t few last e =
     let j = joiner_after fresh_joiner calls in

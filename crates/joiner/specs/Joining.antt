@@ -1,5 +1,6 @@
 -- From the PSAM: 'Joining. A piece is 0 to 252 data bytes and two status bytes.'
-use Rattle.std.specs.Prelude.{ℕ, ◌+◌, ◌-◌, ◌≡◌, Bool, true, false, not, cond, ◌&&◌, ◌||◌, List, [], ◌∷◌, ◌++◌, eqb, ltb, leb, length, take, drop, get_or, set, replicate}
+use Rattle.std.specs.Prelude.{ℕ, ◌+◌, ◌-◌, ◌≡◌, Bool, true, false, not, cond, ◌&&◌, ◌||◌, List, [], ◌∷◌, ◌++◌, eqb, ltb, leb, length, take, drop, get_or, set, replicate, Result, Ok, Err}
+use Rattle.tapa.specs.declared.Refusal.{Refusal}
 use Rattle.std.specs.Borrow.{Bor}
 use Rattle.lists.specs.Lists.{checks, onto, LiesAt}
 use Rattle.tapa.specs.Numbers.{word_at, two_bytes}
@@ -7,10 +8,6 @@ use Rattle.tapa.specs.Codes.{response, icc_command, successful}
 use Rattle.tapa.specs.declared.Refusal.TheVariants.{TooShort, TooLong, FewerThanAnnounced, ThreadAbove7, BufferTooSmall, NotThisPartsMessage, NoSourceKept, StatusNotUsable, MoreThanAnnounced}
 use Rattle.message.specs.Message.{read_of}
 use Rattle.message.specs.declared.Head.{Head}
-use Rattle.message.specs.declared.Reading.{Reading}
-use Rattle.message.specs.declared.Reading.TheVariants.{Message as Read, Refused as Unread}
-use Rattle.message.specs.declared.Writing.{Writing}
-use Rattle.message.specs.declared.Writing.TheVariants.{Written, Refused as Unwritten}
 use Rattle.joiner.specs.declared.Joiner.{Joiner}
 use Rattle.joiner.specs.declared.Taking.{Taking}
 use Rattle.joiner.specs.declared.Taking.TheVariants.{NotLast, Last, Refused as NotTaken}
@@ -164,10 +161,10 @@ abbrev pub get_next_bytes : ℕ → List ℕ
 get_next_bytes thread = 0xB0 ∷ 0xFC ∷ thread ∷ 0x00 ∷ 0x00 ∷ []
 
 -- a buffer under the command's 5 bytes is 9, and stays as it is; else the command's length
-abbrev pub asking_of : List ℕ → Writing
-asking_of buffer = cond (ltb (length buffer) 5) (Unwritten BufferTooSmall) (Written 5)
+abbrev pub asking_of : List ℕ → Result ℕ Refusal
+asking_of buffer = cond (ltb (length buffer) 5) (Err BufferTooSmall) (Ok 5)
 
-pub record Asks (thread : ℕ) (before after : List ℕ) (w : Writing) : Type 0 where
+pub record Asks (thread : ℕ) (before after : List ℕ) (w : Result ℕ Refusal) : Type 0 where
   pub answer : w ≡ asking_of before
   pub buffer : after ≡ cond (ltb (length before) 5) before (onto (get_next_bytes thread) before)
 
@@ -179,15 +176,15 @@ keep_checks h =
     ∷ (ltb 7 h.thread, NotKept ThreadAbove7)
     ∷ []
 
-abbrev pub keeping_on : Reading → Keeping
-keeping_on (Unread r) = NotKept r
-keeping_on (Read h) = checks (keep_checks h) Done
+abbrev pub keeping_on : Result Head Refusal → Keeping
+keeping_on (Err r) = NotKept r
+keeping_on (Ok h) = checks (keep_checks h) Done
 
 -- the message's source is kept for its thread; a refusal touches nothing
-abbrev pub keeper_on : Reading → Keeping → Joiner → Joiner
-keeper_on (Read h) Done j = with_source j h.thread h.source
-keeper_on (Read h) (NotKept r) j = j
-keeper_on (Unread r) k j = j
+abbrev pub keeper_on : Result Head Refusal → Keeping → Joiner → Joiner
+keeper_on (Ok h) Done j = with_source j h.thread h.source
+keeper_on (Ok h) (NotKept r) j = j
+keeper_on (Err r) k j = j
 
 unfoldable pub kept_of : Joiner → List ℕ → Kept
 kept_of j message = record {

@@ -1,16 +1,15 @@
 -- 'the source kept from the thread's last '42' command': which one that is, after any calls.
-use Rattle.std.specs.Prelude.{ℕ, false, cond, ◌&&◌, List, [], ◌∷◌, eqb, leb, get_or}
-use Rattle.std.proofs.Math.Option.{Option, none, some}
+use Rattle.std.specs.Prelude.{ℕ, false, cond, ◌&&◌, List, [], ◌∷◌, eqb, leb, get_or, Result, Ok, Err, Option, Some, None}
+use Rattle.tapa.specs.declared.Refusal.{Refusal}
+use Rattle.message.specs.declared.Head.{Head}
 use Rattle.tapa.specs.Codes.{icc_command}
 use Rattle.message.specs.Message.{read_of}
-use Rattle.message.specs.declared.Reading.{Reading}
-use Rattle.message.specs.declared.Reading.TheVariants.{Message as Read, Refused as Unread}
 use Rattle.joiner.specs.declared.Joiner.{Joiner}
 use Rattle.joiner.specs.Joining.{next_of, kept_of}
 
 -- the source that a joiner holds for a thread
 abbrev pub source_for : Joiner → ℕ → Option ℕ
-source_for j thread = cond (get_or j.kept thread false) (some (get_or j.sources thread 0)) none
+source_for j thread = cond (get_or j.kept thread false) (Some (get_or j.sources thread 0)) None
 
 -- a call of `keep` with a message, or of `join` with a piece and a buffer
 pub data Call : Type 0 where
@@ -23,13 +22,13 @@ joiner_after j (keeping message ∷ calls) = joiner_after (kept_of j message).ne
 joiner_after j (joining piece buffer ∷ calls) = joiner_after (next_of j piece buffer) calls
 
 -- what a message says of a thread: its source, where it is a '42' command on that thread
-abbrev pub source_in : Reading → ℕ → Option ℕ
-source_in (Unread r) thread = none
-source_in (Read h) thread = cond (eqb h.kind icc_command && (leb h.thread 7 && eqb h.thread thread)) (some h.source) none
+abbrev pub source_in : Result Head Refusal → ℕ → Option ℕ
+source_in (Err r) thread = None
+source_in (Ok h) thread = cond (eqb h.kind icc_command && (leb h.thread 7 && eqb h.thread thread)) (Some h.source) None
 
 abbrev pub newer : Option ℕ → Option ℕ → Option ℕ
-newer (some s) held = some s
-newer none held = held
+newer (Some s) held = Some s
+newer None held = held
 
 -- the source of the last one among some calls, or the one held before them
 abbrev pub last_source : List Call → ℕ → Option ℕ → Option ℕ

@@ -1,5 +1,7 @@
 -- What is said of a message: the returns of the writers over plain values, and that no line is longer than 1,024 bytes. Assumes nothing.
 use Prim.Native.Nat.{◌-◌, ◌<◌, ℕ, ◌≤◌}
+use Rattle.tapa.specs.declared.Refusal.{Refusal}
+use Rattle.std.specs.Prelude.{Option, Some, None, Ok, Err}
 use mathlib.Core.List.{◌++◌, List, [], ◌∷◌}
 use mathlib.Core.Path.{ap, sym, ◌∙◌, ◌≡◌}
 use native.Mathlib.Omega.{arith}
@@ -12,8 +14,6 @@ use Rattle.lines.proofs.Short.{table-short}
 use Rattle.lines.specs.Lines.{counted, lf}
 use Rattle.lists.proofs.Onto.{prefix}
 use Rattle.lists.specs.Lists.{Bytes}
-use Rattle.replies.specs.declared.Answer.{Answer}
-use Rattle.replies.specs.declared.Answer.TheVariants.{Nothing, Refused, Reply}
 use Rattle.store.proofs.Kept.{sound-kept}
 use Rattle.store.specs.Store.{Handling, Result, handled}
 use Rattle.store.specs.declared.Handled.{Handled}
@@ -32,7 +32,7 @@ module _ (n k : ℕ) (s : List ℕ) where
 
 -- ---- what was written for the case that the match found is what the answer says
 
-pub say : (p q : Pen) (a found : Answer) (reply : List ℕ) → a ≡ found → q ≡ puts p (said_text found reply) → q ≡ puts p (said_text a reply)
+pub say : (p q : Pen) (a found : Result (Option ℕ) Refusal) (reply : List ℕ) → a ≡ found → q ≡ puts p (said_text found reply) → q ≡ puts p (said_text a reply)
 say p q a found reply e f = rw e f
 
 -- ---- the store was asked, and the line was written
@@ -53,8 +53,8 @@ module _ (b : Book) (area message : List ℕ) (ok : Storable b area) (bytes : By
 
 -- ---- a line is short
 
-said-short : (n : ℕ) (a : Answer) (reply : List ℕ) → n < 100000 → length reply ≡ 398 → length (said_line n a reply) ≤ 1024
-said-short n (Reply m) reply h e =
+said-short : (n : ℕ) (a : Result (Option ℕ) Refusal) (reply : List ℕ) → n < 100000 → length reply ≡ 398 → length (said_line n a reply) ≤ 1024
+said-short n (Ok (Some m)) reply h e =
     let r = hexes_of (take m reply) in
     let t = ascii " reply " ++ r in
     omega (
@@ -66,8 +66,8 @@ said-short n (Reply m) reply h e =
       length-take m reply,
       five-digits n h,
     )
-said-short n Nothing reply h e = omega (arith, length-append (decimal_of n) (10 ∷ []), five-digits n h)
-said-short n (Refused r) reply h e =
+said-short n (Ok None) reply h e = omega (arith, length-append (decimal_of n) (10 ∷ []), five-digits n h)
+said-short n (Err r) reply h e =
     let d = decimal_of (number_of r) in
     let t = ascii " refused " ++ d in
     omega (

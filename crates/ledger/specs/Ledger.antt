@@ -1,5 +1,6 @@
 -- The lines that an input of commands prescribes, and what the store is after them.
-use Rattle.std.specs.Prelude.{◌+◌, suc, zero, ℕ, ◌<◌, ◌≤◌, Bool, cond, false, true, ◌++◌, List, [], ◌∷◌, ◌≡◌, ltb, drop, length, replicate, take}
+use Rattle.std.specs.Prelude.{◌+◌, suc, zero, ℕ, ◌<◌, ◌≤◌, Bool, cond, false, true, ◌++◌, List, [], ◌∷◌, ◌≡◌, ltb, drop, length, replicate, take, Option, Some, None, Ok, Err}
+use Rattle.tapa.specs.declared.Refusal.{Refusal}
 use Rattle.book.specs.declared.Book.{Book}
 use Rattle.fields.specs.Fields.{Steps, broken, give-up, message, over, replaced, then}
 use Rattle.fields.specs.Places.{steps_at}
@@ -13,8 +14,6 @@ use Rattle.ledger.specs.declared.Next.TheVariants.{Broken, End, Message}
 use Rattle.ledger.specs.declared.Page.{Page}
 use Rattle.lines.specs.Lines.{broken_line, long_line}
 use Rattle.lists.specs.Lists.{joined}
-use Rattle.replies.specs.declared.Answer.{Answer}
-use Rattle.replies.specs.declared.Answer.TheVariants.{Nothing, Refused, Reply}
 use Rattle.store.specs.Store.{Result, handled}
 use Rattle.tapa.specs.Refusals.{number_of}
 use Rattle.text.specs.Text.{ascii, decimal_of, hexes_of, pen, puts}
@@ -22,12 +21,12 @@ use Rattle.text.specs.Text.{ascii, decimal_of, hexes_of, pen, puts}
 -- ---- a line
 
 -- '`N reply` and the reply's bytes in upper-case hex, or `N refused K`'; the store has no answer without a reply
-abbrev pub said_text : Answer → List ℕ → List ℕ
-said_text (Reply n) reply = ascii " reply " ++ hexes_of (take n reply)
-said_text Nothing reply = []
-said_text (Refused r) reply = ascii " refused " ++ decimal_of (number_of r)
+abbrev pub said_text : Result (Option ℕ) Refusal → List ℕ → List ℕ
+said_text (Ok (Some n)) reply = ascii " reply " ++ hexes_of (take n reply)
+said_text (Ok None) reply = []
+said_text (Err r) reply = ascii " refused " ++ decimal_of (number_of r)
 
-abbrev pub said_line : ℕ → Answer → List ℕ → List ℕ
+abbrev pub said_line : ℕ → Result (Option ℕ) Refusal → List ℕ → List ℕ
 said_line n a reply = decimal_of n ++ (said_text a reply ++ (10 ∷ []))
 
 -- the reply buffer: just room for the longest response (shut, since it would be written out wherever it stands)

@@ -1,9 +1,9 @@
 -- Laws of an array that holds a list: what is read, and each change in place. Rows and places are two uses of it.
 use Prim.Native.Nat.{ℕ, zero, suc, ◌+◌, ◌-◌, ◌≤◌, ◌<◌}
+use Rattle.std.specs.Prelude.{Option, Some}
 use mathlib.Core.Path.{◌≡◌, refl, sym, ap, ◌∙◌}
 use mathlib.Core.Bool.{Bool, true, false, ◌||◌, or-true}
 use mathlib.Core.List.{List, [], ◌∷◌}
-use mathlib.Core.Option.{some}
 use native.Mathlib.Nat.{not-suc-le-zero}
 use native.Mathlib.Numerals.{add-one}
 use native.Mathlib.Omega.{arith}
@@ -11,8 +11,6 @@ use lib.Dec.{eqb, ltb}
 use lib.ListN.{length, replicate, get_or, set, length-set, length-replicate}
 use lib.Seq.{get_or-set_same, get_or-set_other, set-get_or, ext_get_or}
 use borrow.Author.Tests.{eq-eqb, ne_eqb, eqb-true, eqb-false, ltb-true, ltb-false}
-use Rattle.lists.specs.declared.Found.{Found}
-use Rattle.lists.specs.declared.Found.TheVariants.{At}
 use Rattle.lists.specs.Lists.{count, some_of, keep, first, find, without_at, changed_at}
 use Rattle.lists.specs.Arrays.{held, Exact, Holding, Becoming}
 use Rattle.lists.proofs.Tests.{split, differ}
@@ -62,10 +60,10 @@ module _ {A : Type 0} (unpack : ℕ → A) where
         ap (held unpack l) e
 
     module _ (q : A → Bool) where
-      pub find-here : {r : Found} → find q (held unpack l i) ≡ r → q (unpack (get_or l (i - 1) 0)) ≡ true → At (i - 1) ≡ r
+      pub find-here : {r : Option ℕ} → find q (held unpack l i) ≡ r → q (unpack (get_or l (i - 1) 0)) ≡ true → Some (i - 1) ≡ r
       find-here e t = sym (ap (find q) back_one ∙ rw (t, len l (i - 1))) ∙ e
 
-      pub find_past : {r : Found} → find q (held unpack l i) ≡ r → q (unpack (get_or l (i - 1) 0)) ≡ false → find q (held unpack l (i - 1)) ≡ r
+      pub find_past : {r : Option ℕ} → find q (held unpack l i) ≡ r → q (unpack (get_or l (i - 1) 0)) ≡ false → find q (held unpack l (i - 1)) ≡ r
       find_past e t = sym (ap (find q) back_one ∙ rw t) ∙ e
 
       pub some-here : {r : Bool} → some_of q (held unpack l i) ≡ r → q (unpack (get_or l (i - 1) 0)) ≡ true → true ≡ r
@@ -103,28 +101,28 @@ module _ {A : Type 0} (unpack : ℕ → A) where
     pub some-miss : {b : Bool} → b ≡ some_of q (held unpack l i) → q (unpack (get_or l i 0)) ≡ false → b ≡ some_of q (held unpack l (i + 1))
     some-miss e t = rw (add-one i, t) e
 
-    pub find-hit : q (unpack (get_or l i 0)) ≡ true → At i ≡ find q (held unpack l (i + 1))
+    pub find-hit : q (unpack (get_or l i 0)) ≡ true → Some i ≡ find q (held unpack l (i + 1))
     find-hit t = rw (add-one i, t, len l i)
 
-    pub find-miss : {f : Found} → f ≡ find q (held unpack l i) → q (unpack (get_or l i 0)) ≡ false → f ≡ find q (held unpack l (i + 1))
+    pub find-miss : {f : Option ℕ} → f ≡ find q (held unpack l i) → q (unpack (get_or l i 0)) ≡ false → f ≡ find q (held unpack l (i + 1))
     find-miss e t = rw (add-one i, t) e
 
   -- ---- what was found: its cell, and that it passes
 
   pub record Here (q : A → Bool) (l : List ℕ) (n i : ℕ) : Type 0 where
     pub inside : i < n
-    pub it : first q (held unpack l n) ≡ some (unpack (get_or l i 0))
+    pub it : first q (held unpack l n) ≡ Some (unpack (get_or l i 0))
     pub meets : q (unpack (get_or l i 0)) ≡ true
 
-  pub here : (q : A → Bool) (l : List ℕ) (n i : ℕ) → find q (held unpack l n) ≡ At i → Here q l n i
+  pub here : (q : A → Bool) (l : List ℕ) (n i : ℕ) → find q (held unpack l n) ≡ Some i → Here q l n i
   here q l zero i e = differ (cc)
   here q l (suc n) i e =
       split (q (unpack (get_or l n 0)))
-      (λ t. let f : At (length (held unpack l n)) ≡ At i = rw t at e in
+      (λ t. let f : Some (length (held unpack l n)) ≡ Some i = rw t at e in
       let k : n ≡ i = sym (len l n) ∙ (cc) in
       record {
         inside = omega arith;
-        it = rw t (ap (λ (j : ℕ). some (unpack (get_or l j 0))) k);
+        it = rw t (ap (λ (j : ℕ). Some (unpack (get_or l j 0))) k);
         meets = ap (λ (j : ℕ). q (unpack (get_or l j 0))) (sym k) ∙ t;
       })
       (λ t. let h = here q l n i (rw t at e) in record { inside = omega (arith, h.inside); it = rw t h.it; meets = h.meets })

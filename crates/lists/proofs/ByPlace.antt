@@ -1,5 +1,6 @@
 -- Laws of elements by their places, counted from the front: searches upwards and downwards, and a list with one element less, more, or another.
 use Prim.Native.Nat.{◌+◌, ◌-◌, ◌<◌, suc, zero, ℕ, ◌≤◌}
+use Rattle.std.specs.Prelude.{Option, Some, None}
 use mathlib.Core.Bool.{Bool, cond, false, true}
 use mathlib.Core.List.{◌++◌, List, [], ◌∷◌}
 use mathlib.Core.Path.{ap, refl, sym, ◌∙◌, ◌≡◌}
@@ -11,31 +12,29 @@ use lib.Seq.{length-take-le, take-suc}
 use Rattle.lists.proofs.Tests.{differ, or_no, split}
 use Rattle.lists.specs.ByPlace.{cut, is_at, last, later, place}
 use Rattle.lists.specs.Lists.{All, count, keep, one, some_of, without}
-use Rattle.lists.specs.declared.Found.{Found}
-use Rattle.lists.specs.declared.Found.TheVariants.{At, Nothing}
 
-later-cond : (b c : Bool) (i : ℕ) (f : Found) → later (cond b (At i) f) c ≡ cond b (At (suc i)) (later f c)
+later-cond : (b c : Bool) (i : ℕ) (f : Option ℕ) → later (cond b (Some i) f) c ≡ cond b (Some (suc i)) (later f c)
 later-cond true c i f = refl
 later-cond false c i f = refl
 
 -- ---- what a search found
 
 module _ {A : Type 0} where
-  pub place_inside : (q : A → Bool) (n : ℕ) (l : List A) (j : ℕ) → place q n l ≡ At j → (n ≤ j) × (j < n + length l)
+  pub place_inside : (q : A → Bool) (n : ℕ) (l : List A) (j : ℕ) → place q n l ≡ Some j → (n ≤ j) × (j < n + length l)
   place_inside q n [] j e = differ (cc)
   place_inside q n (x ∷ l) j e =
-      split (q x) (λ t. let f : At n ≡ At j = rw t at e in let k : n ≡ j = cc in (omega arith, omega arith))
+      split (q x) (λ t. let f : Some n ≡ Some j = rw t at e in let k : n ≡ j = cc in (omega arith, omega arith))
       (λ t. let ih = place_inside q (suc n) l j (rw t at e) in (omega (arith, ih.0), omega (arith, ih.1)))
 
-  pub last-inside : (p : A → Bool) (l : List A) (i : ℕ) → last p l ≡ At i → i < length l
+  pub last-inside : (p : A → Bool) (l : List A) (i : ℕ) → last p l ≡ Some i → i < length l
   last-inside p l i e = within l i e
     where
-      in-later : (f : Found) (b : Bool) (n : ℕ) → ((j : ℕ) → f ≡ At j → j < n) → (i : ℕ) → later f b ≡ At i → i < suc n
-      in-later Nothing true n h i e = let z : 0 ≡ i = cc in omega arith
-      in-later Nothing false n h i e = differ (cc)
-      in-later (At j) b n h i e = let z : suc j ≡ i = cc in omega (arith, h j refl)
+      in-later : (f : Option ℕ) (b : Bool) (n : ℕ) → ((j : ℕ) → f ≡ Some j → j < n) → (i : ℕ) → later f b ≡ Some i → i < suc n
+      in-later None true n h i e = let z : 0 ≡ i = cc in omega arith
+      in-later None false n h i e = differ (cc)
+      in-later (Some j) b n h i e = let z : suc j ≡ i = cc in omega (arith, h j refl)
 
-      within : (l : List A) (i : ℕ) → last p l ≡ At i → i < length l
+      within : (l : List A) (i : ℕ) → last p l ≡ Some i → i < length l
       within [] i e = differ (cc)
       within (x ∷ l) i e = in-later (last p l) (p x) (length l) (within l) i e
 
@@ -46,7 +45,7 @@ module _ {A : Type 0} where
 
   -- ---- a search downwards
 
-  last_snoc : (p : A → Bool) (l : List A) (x : A) → last p (l ++ x ∷ []) ≡ cond (p x) (At (length l)) (last p l)
+  last_snoc : (p : A → Bool) (l : List A) (x : A) → last p (l ++ x ∷ []) ≡ cond (p x) (Some (length l)) (last p l)
   last_snoc p [] x = refl
   last_snoc p (y ∷ l) x = rw (last_snoc p l x) (later-cond (p x) (p y) (length l) (last p l))
 
@@ -129,30 +128,30 @@ module _ {A : Type 0} where
   none-else q zero (x ∷ l) e = (or_no (q x) (some_of q l) e).1
   none-else q (suc k) (x ∷ l) e = let w = or_no (q x) (some_of q l) e in rw w.0 (none-else q k l w.1)
 
-  some-else : (q : A → Bool) (n j k : ℕ) (l : List A) → place q n l ≡ At j → (j ≡ n + k → ⊥) → some_of q (cut l k) ≡ true
+  some-else : (q : A → Bool) (n j k : ℕ) (l : List A) → place q n l ≡ Some j → (j ≡ n + k → ⊥) → some_of q (cut l k) ≡ true
   some-else q n j k [] e h = differ (cc)
   some-else q n j zero (x ∷ l) e h =
-      split (q x) (λ t. let f : At n ≡ At j = rw t at e in let m : n ≡ j = cc in absurd (h (let z : j ≡ n + 0 = omega arith in z)))
-      (λ t. let f : place q (suc n) l ≡ At j = rw t at e in some_is q (suc n) l ∙ ap is_at f)
+      split (q x) (λ t. let f : Some n ≡ Some j = rw t at e in let m : n ≡ j = cc in absurd (h (let z : j ≡ n + 0 = omega arith in z)))
+      (λ t. let f : place q (suc n) l ≡ Some j = rw t at e in some_is q (suc n) l ∙ ap is_at f)
   some-else q n j (suc k) (x ∷ l) e h =
       split (q x) (λ t. rw t) (λ t. rw t (some-else q (suc n) j k l (rw t at e) (λ m. h (let z : j ≡ n + suc k = omega arith in z))))
 
-  some-behind : (q : A → Bool) (n j k : ℕ) (l : List A) → place q n l ≡ At j → j ≡ n + k → some_of q (cut l k) ≡ some_of q (drop (suc k) l)
+  some-behind : (q : A → Bool) (n j k : ℕ) (l : List A) → place q n l ≡ Some j → j ≡ n + k → some_of q (cut l k) ≡ some_of q (drop (suc k) l)
   some-behind q n j k [] e h = differ (cc)
   some-behind q n j zero (x ∷ l) e h = refl
   some-behind q n j (suc k) (x ∷ l) e h =
-      split (q x) (λ t. let f : At n ≡ At j = rw t at e in let m : n ≡ j = cc in absurd (omega arith)) (λ t. rw t (some-behind q (suc n) j k l (rw t at e) (omega arith)))
+      split (q x) (λ t. let f : Some n ≡ Some j = rw t at e in let m : n ≡ j = cc in absurd (omega arith)) (λ t. rw t (some-behind q (suc n) j k l (rw t at e) (omega arith)))
 
   -- no other where none passes
-  pub other_none : (q : A → Bool) (k : ℕ) (l : List A) → place q 0 l ≡ Nothing → is_at (place q 0 (cut l k)) ≡ false
+  pub other_none : (q : A → Bool) (k : ℕ) (l : List A) → place q 0 l ≡ None → is_at (place q 0 (cut l k)) ≡ false
   other_none q k l e = sym (some_is q 0 (cut l k)) ∙ none-else q k l (some_is q 0 l ∙ ap is_at e)
 
   -- the first that passes is another
-  pub other-first : (q : A → Bool) (j k : ℕ) (l : List A) → place q 0 l ≡ At j → (j ≡ k → ⊥) → is_at (place q 0 (cut l k)) ≡ true
+  pub other-first : (q : A → Bool) (j k : ℕ) (l : List A) → place q 0 l ≡ Some j → (j ≡ k → ⊥) → is_at (place q 0 (cut l k)) ≡ true
   other-first q j k l e h = sym (some_is q 0 (cut l k)) ∙ some-else q 0 j k l e (λ m. h (let z : j ≡ k = omega arith in z))
 
   -- the first that passes is this one: another can only stand behind it
-  pub other-behind : (q : A → Bool) (k : ℕ) (l : List A) → place q 0 l ≡ At k → is_at (place q 0 (cut l k)) ≡ is_at (place q (k + 1) (drop (k + 1) l))
+  pub other-behind : (q : A → Bool) (k : ℕ) (l : List A) → place q 0 l ≡ Some k → is_at (place q 0 (cut l k)) ≡ is_at (place q (k + 1) (drop (k + 1) l))
   other-behind q k l e =
       sym (some_is q 0 (cut l k)) ∙ some-behind q 0 k k l e (let m : k ≡ 0 + k = omega arith in m) ∙ ap (λ (n : ℕ). some_of q (drop n l)) (sym (add-one k)) ∙ some_is q (k + 1) (drop (k + 1) l)
 
@@ -168,13 +167,13 @@ module _ {A : Type 0} (d : A) where
   take_more l i h = rw (add-one, take-suc l i d)
 
   last_step : (p : A → Bool) (l : List A) (i : ℕ) → 0 < i → i ≤ length l
-      → last p (take i l) ≡ cond (p (get_or l (i - 1) d)) (At (i - 1)) (last p (take (i - 1) l))
+      → last p (take i l) ≡ cond (p (get_or l (i - 1) d)) (Some (i - 1)) (last p (take (i - 1) l))
   last_step p l i h k =
       let e : i ≡ (i - 1) + 1 = omega arith in
       ap (λ (n : ℕ). last p (take n l)) e ∙ ap (last p) (take_more l (i - 1) (omega arith)) ∙ last_snoc p (take (i - 1) l) (get_or l (i - 1) d)
-      ∙ ap (λ (n : ℕ). cond (p (get_or l (i - 1) d)) (At n) (last p (take (i - 1) l))) (length-take-le (i - 1) l (omega arith))
+      ∙ ap (λ (n : ℕ). cond (p (get_or l (i - 1) d)) (Some n) (last p (take (i - 1) l))) (length-take-le (i - 1) l (omega arith))
 
-  pub last-here : (p : A → Bool) (l : List A) (i : ℕ) → 0 < i → i ≤ length l → p (get_or l (i - 1) d) ≡ true → last p (take i l) ≡ At (i - 1)
+  pub last-here : (p : A → Bool) (l : List A) (i : ℕ) → 0 < i → i ≤ length l → p (get_or l (i - 1) d) ≡ true → last p (take i l) ≡ Some (i - 1)
   last-here p l i h k t = last_step p l i h k ∙ rw t
 
   pub last-past : (p : A → Bool) (l : List A) (i : ℕ) → 0 < i → i ≤ length l → p (get_or l (i - 1) d) ≡ false → last p (take i l) ≡ last p (take (i - 1) l)
@@ -202,18 +201,18 @@ module _ {A : Type 0} (d : A) where
     pub passes : q (get_or l k d) ≡ true
     pub gone : cut l k ≡ without q l
 
-  hit-from : (q : A → Bool) (n k : ℕ) (l : List A) → place q n l ≡ At (n + k) → Hit q l k
+  hit-from : (q : A → Bool) (n k : ℕ) (l : List A) → place q n l ≡ Some (n + k) → Hit q l k
   hit-from q n k [] e = differ (cc)
   hit-from q n zero (x ∷ l) e =
       split (q x) (λ t. record { inside = omega arith; passes = t; gone = sym (rw t) })
       (λ t. absurd (omega (arith, (place_inside q (suc n) l (n + 0) (rw t at e)).0)))
   hit-from q n (suc k) (x ∷ l) e =
-      split (q x) (λ t. let f : At n ≡ At (n + suc k) = rw t at e in let m : n ≡ n + suc k = cc in absurd (omega arith))
+      split (q x) (λ t. let f : Some n ≡ Some (n + suc k) = rw t at e in let m : n ≡ n + suc k = cc in absurd (omega arith))
       (λ t.
       let m : n + suc k ≡ suc n + k = omega arith in
-      let f : place q (suc n) l ≡ At (n + suc k) = rw t at e in
-      let r = hit-from q (suc n) k l (f ∙ ap At m) in
+      let f : place q (suc n) l ≡ Some (n + suc k) = rw t at e in
+      let r = hit-from q (suc n) k l (f ∙ ap Some m) in
       record { inside = omega (arith, r.inside); passes = r.passes; gone = ap (λ (z : List A). x ∷ z) r.gone ∙ sym (rw t) })
 
-  pub hit : (q : A → Bool) (l : List A) (k : ℕ) → place q 0 l ≡ At k → Hit q l k
-  hit q l k e = hit-from q 0 k l (e ∙ ap At (let m : k ≡ 0 + k = omega arith in m))
+  pub hit : (q : A → Bool) (l : List A) (k : ℕ) → place q 0 l ≡ Some k → Hit q l k
+  hit q l k e = hit-from q 0 k l (e ∙ ap Some (let m : k ≡ 0 + k = omega arith in m))

@@ -1,8 +1,8 @@
 -- Laws of the first that passes: found, taken out, changed.
 use Prim.Native.Nat.{◌+◌, suc, ◌≤◌}
+use Rattle.std.specs.Prelude.{Some, None}
 use mathlib.Core.Bool.{Bool, false, not, or-true, true}
 use mathlib.Core.List.{List, [], ◌∷◌}
-use mathlib.Core.Option.{none, some}
 use mathlib.Core.Path.{ap, refl, ◌≡◌}
 use native.Mathlib.Nat.{le_of_eq}
 use native.Mathlib.Omega.{arith}
@@ -14,43 +14,43 @@ use Rattle.lists.specs.Lists.{All, changed, count, first, keep, one, some_of, wi
 module _ {A : Type 0} where
   -- ---- the first that passes
 
-  pub first-yes : (q : A → Bool) (l : List A) (x : A) → first q l ≡ some x → q x ≡ true
+  pub first-yes : (q : A → Bool) (l : List A) (x : A) → first q l ≡ Some x → q x ≡ true
   first-yes q [] x e = differ (cc)
   first-yes q (y ∷ l) x e =
-      split (q y) (λ p. let k : y ≡ x = (let f : some y ≡ some x = rw p at e in cc) in rw k at p) (λ p. first-yes q l x (rw p at e))
+      split (q y) (λ p. let k : y ≡ x = (let f : Some y ≡ Some x = rw p at e in cc) in rw k at p) (λ p. first-yes q l x (rw p at e))
 
   -- what is found first makes any test pass that it meets
-  pub first-meets : (q r : A → Bool) (l : List A) (x : A) → first r l ≡ some x → q x ≡ true → some_of q l ≡ true
+  pub first-meets : (q r : A → Bool) (l : List A) (x : A) → first r l ≡ Some x → q x ≡ true → some_of q l ≡ true
   first-meets q r [] x e p = differ (cc)
   first-meets q r (y ∷ l) x e p =
-      split (r y) (λ b. let k : y ≡ x = (let f : some y ≡ some x = rw b at e in cc) in let m : q y ≡ true = rw k p in rw m)
+      split (r y) (λ b. let k : y ≡ x = (let f : Some y ≡ Some x = rw b at e in cc) in let m : q y ≡ true = rw k p in rw m)
       (λ b. rw (first-meets q r l x (rw b at e) p, or-true))
 
   -- where none is first, none passes
-  pub none_passes : (q : A → Bool) (l : List A) → first q l ≡ none → some_of q l ≡ false
+  pub none_passes : (q : A → Bool) (l : List A) → first q l ≡ None → some_of q l ≡ false
   none_passes q [] e = refl
-  none_passes q (x ∷ l) e = split (q x) (λ p. let f : some x ≡ none = rw p at e in differ (cc)) (λ p. rw p (none_passes q l (rw p at e)))
+  none_passes q (x ∷ l) e = split (q x) (λ p. let f : Some x ≡ None = rw p at e in differ (cc)) (λ p. rw p (none_passes q l (rw p at e)))
 
   -- where some passes, one is first; and it has what every element has
-  pub first_some : (q : A → Bool) (l : List A) → some_of q l ≡ true → (x : A) × (first q l ≡ some x)
+  pub first_some : (q : A → Bool) (l : List A) → some_of q l ≡ true → (x : A) × (first q l ≡ Some x)
   first_some q [] e = clash false e refl
   first_some q (x ∷ l) e = split (q x) (λ p. (x, rw p)) (λ p. let i = first_some q l (rw p at e) in (i.0, rw p i.1))
 
-  pub first-has : (P : A → Type 0) (q : A → Bool) (l : List A) (x : A) → first q l ≡ some x → All P l → P x
+  pub first-has : (P : A → Type 0) (q : A → Bool) (l : List A) (x : A) → first q l ≡ Some x → All P l → P x
   first-has P q [] x e a = differ (cc)
   first-has P q (y ∷ l) x e a =
-      split (q y) (λ p. let k : y ≡ x = (let f : some y ≡ some x = rw p at e in cc) in rw (← k) a.0) (λ p. first-has P q l x (rw p at e) a.1)
+      split (q y) (λ p. let k : y ≡ x = (let f : Some y ≡ Some x = rw p at e in cc) in rw (← k) a.0) (λ p. first-has P q l x (rw p at e) a.1)
 
   -- ---- taken out
 
   -- the first that passes, taken out
-  pub count-first : (q r : A → Bool) (l : List A) (x : A) → first r l ≡ some x → count q l ≡ one (q x) + count q (without r l)
+  pub count-first : (q r : A → Bool) (l : List A) (x : A) → first r l ≡ Some x → count q l ≡ one (q x) + count q (without r l)
   count-first q r [] x e = differ (cc)
   count-first q r (y ∷ l) x e =
-      split (r y) (λ p. let k : y ≡ x = (let f : some y ≡ some x = rw p at e in cc) in rw (p, k))
-      (λ p. let f : first r l ≡ some x = rw p at e in rw p (omega (arith, count-first q r l x f)))
+      split (r y) (λ p. let k : y ≡ x = (let f : Some y ≡ Some x = rw p at e in cc) in rw (p, k))
+      (λ p. let f : first r l ≡ Some x = rw p at e in rw p (omega (arith, count-first q r l x f)))
 
-  pub length-first : (r : A → Bool) (l : List A) (x : A) → first r l ≡ some x → length l ≡ suc (length (without r l))
+  pub length-first : (r : A → Bool) (l : List A) (x : A) → first r l ≡ Some x → length l ≡ suc (length (without r l))
   length-first r [] x e = differ (cc)
   length-first r (y ∷ l) x e = split (r y) (λ p. rw p) (λ p. rw p (omega (arith, length-first r l x (rw p at e))))
 
@@ -82,11 +82,11 @@ module _ {A : Type 0} where
       split (r x) (λ p. rw p f.1) (λ p. rw (p, f.0) (none-without q r l f.1))
 
   -- taking out one that does not pass changes no test
-  pub some-without : (q r : A → Bool) (l : List A) (x : A) → first r l ≡ some x → q x ≡ false → some_of q (without r l) ≡ some_of q l
+  pub some-without : (q r : A → Bool) (l : List A) (x : A) → first r l ≡ Some x → q x ≡ false → some_of q (without r l) ≡ some_of q l
   some-without q r [] x e n = refl
   some-without q r (y ∷ l) x e n =
       split (r y)
-      (λ p. let k : y ≡ x = (let f : some y ≡ some x = rw p at e in cc) in let m : q y ≡ false = rw k n in rw (p, m))
+      (λ p. let k : y ≡ x = (let f : Some y ≡ Some x = rw p at e in cc) in let m : q y ≡ false = rw k n in rw (p, m))
       (λ p. rw (p, some-without q r l x (rw p at e) n))
 
   -- ---- changed
@@ -101,10 +101,10 @@ module _ {A : Type 0} where
   length-changed f q (x ∷ l) = split (q x) (λ p. rw p) (λ p. rw (p, length-changed f q l))
 
   -- the first that passes, once changed, makes any test pass that it then meets
-  pub changed-meets : (f : A → A) (q r : A → Bool) (l : List A) (x : A) → first r l ≡ some x → q (f x) ≡ true → some_of q (changed f r l) ≡ true
+  pub changed-meets : (f : A → A) (q r : A → Bool) (l : List A) (x : A) → first r l ≡ Some x → q (f x) ≡ true → some_of q (changed f r l) ≡ true
   changed-meets f q r [] x e p = differ (cc)
   changed-meets f q r (y ∷ l) x e p =
-      split (r y) (λ b. let k : y ≡ x = (let g : some y ≡ some x = rw b at e in cc) in rw (b, k, p))
+      split (r y) (λ b. let k : y ≡ x = (let g : Some y ≡ Some x = rw b at e in cc) in rw (b, k, p))
       (λ b. rw (b, changed-meets f q r l x (rw b at e) p, or-true))
 
   pub some-changed : (f : A → A) (q r : A → Bool) → ((x : A) → q (f x) ≡ q x) → (l : List A) → some_of q (changed f r l) ≡ some_of q l

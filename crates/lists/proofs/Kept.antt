@@ -1,9 +1,9 @@
 -- A list seen as the part of it that passes a test: what is asked of the part, and what a change of the list does to it.
 use Prim.Native.Nat.{◌+◌}
+use Rattle.std.specs.Prelude.{Some}
 use mathlib.Core.Path.{◌≡◌, refl, ◌∙◌}
 use mathlib.Core.Bool.{Bool, true, false, not, ◌||◌, ◌&&◌, or-true}
 use mathlib.Core.List.{List, [], ◌∷◌}
-use mathlib.Core.Option.{some}
 use native.Mathlib.Omega.{arith}
 use lib.ListN.{length}
 use Rattle.lists.specs.Lists.{one, count, some_of, keep, first, without, changed}
@@ -79,11 +79,11 @@ module _ {A : Type 0} where
     pub changed-in : (f : A → A)
         → ((x : A) → r (f x) ≡ true)
         → (p : A → Bool) (l : List A) (y : A)
-        → first q l ≡ some y
+        → first q l ≡ Some y
         → count p (keep r (changed f q l)) ≡ one (p (f y)) + count p (keep r l)
     changed-in f in-it p [] y k = differ (cc)
     changed-in f in-it p (x ∷ l) y k =
-        split (q x) (λ e. let s : x ≡ y = (let g : some x ≡ some y = rw e at k in cc) in rw (e, apart x e, in-it x, s))
+        split (q x) (λ e. let s : x ≡ y = (let g : Some x ≡ Some y = rw e at k in cc) in rw (e, apart x e, in-it x, s))
         (λ e. let ih = changed-in f in-it p l y (rw e at k) in
         split (r x) (λ b. rw (e, b, ih) (omega arith)) (λ b. rw (e, b, ih)))
 

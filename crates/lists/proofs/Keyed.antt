@@ -1,10 +1,10 @@
 -- Two lists whose elements have a number each, a key: where for every key they have the same elements in the same order, every test passes as
 -- often in both, whatever stands between those elements.
 use Prim.Native.Nat.{ℕ}
+use Rattle.std.specs.Prelude.{Some}
 use mathlib.Core.Path.{◌≡◌, refl, sym, ap, ◌∙◌}
 use mathlib.Core.Bool.{Bool}
 use mathlib.Core.List.{List, [], ◌∷◌}
-use mathlib.Core.Option.{some}
 use native.Mathlib.Omega.{arith}
 use lib.Dec.{eqb}
 use borrow.Author.Tests.{eqb-true}
@@ -23,15 +23,15 @@ module _ {A : Type 0} (key : A → ℕ) where
   SameKeyed l m = (k : ℕ) → keep (has_key k) l ≡ keep (has_key k) m
 
   -- the first of a part, and what is left of the part without it
-  part-head : (q : A → Bool) (x : A) (k m : List A) → keep q m ≡ x ∷ k → (first q m ≡ some x) × (keep q (without q m) ≡ k)
+  part-head : (q : A → Bool) (x : A) (k m : List A) → keep q m ≡ x ∷ k → (first q m ≡ Some x) × (keep q (without q m) ≡ k)
   part-head q x k [] e = differ (cc)
   part-head q x k (y ∷ m) e =
       split (q y)
-      (λ p. let f : y ∷ keep q m ≡ x ∷ k = rw p at e in let j : y ≡ x = cc in let i : keep q m ≡ k = cc in rw p (ap some j, i))
+      (λ p. let f : y ∷ keep q m ≡ x ∷ k = rw p at e in let j : y ≡ x = cc in let i : keep q m ≡ k = cc in rw p (ap Some j, i))
       (λ p. let ih = part-head q x k m (rw p at e) in rw (p, p) (ih.0, ih.1))
 
   -- the head of the one list, taken out of both
-  taken_out : (x : A) (l m : List A) → SameKeyed (x ∷ l) m → (first (has_key (key x)) m ≡ some x) × SameKeyed l (without (has_key (key x)) m)
+  taken_out : (x : A) (l m : List A) → SameKeyed (x ∷ l) m → (first (has_key (key x)) m ≡ Some x) × SameKeyed l (without (has_key (key x)) m)
   taken_out x l m e =
       let t : ℕ = key x in
       let f : x ∷ keep (has_key t) l ≡ keep (has_key t) m = rw (eqb_same t) at (e t) in

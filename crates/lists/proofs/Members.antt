@@ -1,10 +1,10 @@
 -- Laws of members, and of elements that are changed or left out one by one.
 use Prim.Native.Nat.{ℕ, zero, suc, ◌+◌, ◌≤◌}
+use Rattle.std.specs.Prelude.{Option, Some, None}
 use mathlib.Core.Path.{◌≡◌, refl, sym, ◌∙◌}
 use mathlib.Core.Logic.{◌⊎◌, inl, inr}
 use mathlib.Core.Bool.{Bool, true, false, not, cond}
 use mathlib.Core.List.{List, [], ◌∷◌, ◌++◌}
-use mathlib.Core.Option.{Option, none, some}
 use native.Mathlib.Omega.{arith}
 use lib.Dec.{eqb}
 use lib.ListN.{length, take}
@@ -74,11 +74,11 @@ module _ {A : Type 0} where
   all_take P (suc n) (x ∷ l) p = (p.0, all_take P n l p.1)
 
   -- what passes is the one that is found first, where no two pass
-  pub only : (q : A → Bool) (l : List A) (x y : A) → count q l ≤ 1 → first q l ≡ some x → In y l → q y ≡ true → y ≡ x
+  pub only : (q : A → Bool) (l : List A) (x y : A) → count q l ≤ 1 → first q l ≡ Some x → In y l → q y ≡ true → y ≡ x
   only q [] x y c e i p = absurd i
   only q (z ∷ l) x y c e (inl k) p =
       let pz : q z ≡ true = rw k p in
-      let m : z ≡ x = (let f : some z ≡ some x = rw pz at e in cc) in sym k ∙ m
+      let m : z ≡ x = (let f : Some z ≡ Some x = rw pz at e in cc) in sym k ∙ m
   only q (z ∷ l) x y c e (inr i) p =
       split (q z)
       (λ b. let c' : 1 + count q l ≤ 1 = rw b at c in absurd (omega (arith, in_count q y l p i)))
@@ -94,29 +94,29 @@ module _ {A : Type 0} where
   -- ---- each element changed, or left out
 
   abbrev pub put : Option A → List A → List A
-  put none l = l
-  put (some x) l = x ∷ l
+  put None l = l
+  put (Some x) l = x ∷ l
 
   abbrev pub collect : (A → Option A) → List A → List A
   collect f [] = []
   collect f (x ∷ l) = put (f x) (collect f l)
 
-  pub collect-all : (l : List A) → collect (λ x. some x) l ≡ l
+  pub collect-all : (l : List A) → collect (λ x. Some x) l ≡ l
   collect-all [] = refl
   collect-all (x ∷ l) = rw (collect-all l)
 
-  pub collect-keep : (q : A → Bool) (l : List A) → collect (λ x. cond (q x) none (some x)) l ≡ keep (λ x. not (q x)) l
+  pub collect-keep : (q : A → Bool) (l : List A) → collect (λ x. cond (q x) None (Some x)) l ≡ keep (λ x. not (q x)) l
   collect-keep q [] = refl
   collect-keep q (x ∷ l) = split (q x) (λ p. rw (p, collect-keep q l)) (λ p. rw (p, collect-keep q l))
 
   -- a change that fits at most one
   pub collect-changed : (g : A → A) (q : A → Bool) (l : List A) → count q l ≤ 1
-      → collect (λ x. cond (q x) (some (g x)) (some x)) l ≡ changed g q l
+      → collect (λ x. cond (q x) (Some (g x)) (Some x)) l ≡ changed g q l
   collect-changed g q [] c = refl
   collect-changed g q (x ∷ l) c =
       split (q x) (λ p. let c' : 1 + count q l ≤ 1 = rw p at c in rw (p, untouched l (omega arith)))
       (λ p. rw (p, collect-changed g q l (omega arith)))
     where
-      untouched : (m : List A) → count q m ≡ 0 → collect (λ y. cond (q y) (some (g y)) (some y)) m ≡ m
+      untouched : (m : List A) → count q m ≡ 0 → collect (λ y. cond (q y) (Some (g y)) (Some y)) m ≡ m
       untouched [] e = refl
       untouched (y ∷ m) e = let z = count-zero q y m e in rw (z.0, untouched m z.1)

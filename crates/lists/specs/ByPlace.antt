@@ -1,27 +1,25 @@
 -- Elements by their places, counted from the front of a list: the first element stands at place 0.
-use Rattle.std.specs.Prelude.{suc, zero, ℕ, Bool, cond, false, true, List, [], ◌∷◌}
-use Rattle.lists.specs.declared.Found.{Found}
-use Rattle.lists.specs.declared.Found.TheVariants.{At, Nothing}
+use Rattle.std.specs.Prelude.{suc, zero, ℕ, Bool, cond, false, true, List, [], ◌∷◌, Option, Some, None}
 
 -- whether a search ended at an element
-abbrev pub is_at : Found → Bool
-is_at Nothing = false
-is_at (At i) = true
+abbrev pub is_at : Option ℕ → Bool
+is_at None = false
+is_at (Some i) = true
 
 -- where the last of a list stands that has one element more in front, which passes or not
-abbrev pub later : Found → Bool → Found
-later Nothing b = cond b (At 0) Nothing
-later (At i) b = At (suc i)
+abbrev pub later : Option ℕ → Bool → Option ℕ
+later None b = cond b (Some 0) None
+later (Some i) b = Some (suc i)
 
 module _ {A : Type 0} where
   -- the place of the first that passes; the first element stands at place n
-  abbrev pub place : (A → Bool) → ℕ → List A → Found
-  place q n [] = Nothing
-  place q n (x ∷ xs) = cond (q x) (At n) (place q (suc n) xs)
+  abbrev pub place : (A → Bool) → ℕ → List A → Option ℕ
+  place q n [] = None
+  place q n (x ∷ xs) = cond (q x) (Some n) (place q (suc n) xs)
 
   -- the place of the last that passes
-  abbrev pub last : (A → Bool) → List A → Found
-  last q [] = Nothing
+  abbrev pub last : (A → Bool) → List A → Option ℕ
+  last q [] = None
   last q (x ∷ xs) = later (last q xs) (q x)
 
   -- the list without what stands at a place; past the end it stays as it is

@@ -1,9 +1,6 @@
 -- What every room asks of a list. A test is a function into Bool, a count is a number.
-use Rattle.std.specs.Prelude.{ℕ, ◌+◌, ◌<◌, Bool, true, false, ◌||◌, cond, List, [], ◌∷◌, ◌++◌, ◌⊎◌, ◌≡◌, eqb, length, take, drop, get_or}
-use Rattle.std.proofs.Math.Option.{Option, none, some}
+use Rattle.std.specs.Prelude.{ℕ, ◌+◌, ◌<◌, Bool, true, false, ◌||◌, cond, List, [], ◌∷◌, ◌++◌, ◌⊎◌, ◌≡◌, eqb, length, take, drop, get_or, Some, None, Option}
 use Rattle.std.specs.Borrow.{Bor}
-use Rattle.lists.specs.declared.Found.{Found}
-use Rattle.lists.specs.declared.Found.TheVariants.{At, Nothing}
 
 -- 1 for a test that passes
 abbrev pub one : Bool → ℕ
@@ -33,8 +30,8 @@ module _ {A : Type 0} where
 
   -- the first that passes
   abbrev pub first : (A → Bool) → List A → Option A
-  first q [] = none
-  first q (x ∷ xs) = cond (q x) (some x) (first q xs)
+  first q [] = None
+  first q (x ∷ xs) = cond (q x) (Some x) (first q xs)
 
   -- the list without the first that passes
   abbrev pub without : (A → Bool) → List A → List A
@@ -47,9 +44,9 @@ module _ {A : Type 0} where
   changed f q (x ∷ xs) = cond (q x) (f x ∷ xs) (x ∷ changed f q xs)
 
   -- the number of the first that passes: how many stand after it
-  abbrev pub find : (A → Bool) → List A → Found
-  find q [] = Nothing
-  find q (x ∷ xs) = cond (q x) (At (length xs)) (find q xs)
+  abbrev pub find : (A → Bool) → List A → Option ℕ
+  find q [] = None
+  find q (x ∷ xs) = cond (q x) (Some (length xs)) (find q xs)
 
   -- the list without the element that has the number i
   abbrev pub without_at : ℕ → List A → List A

@@ -7,9 +7,3 @@
 // array that is filled from the start, this number is the element's index.
 #![tactic(auto)]
 
-// Where a walk over a list ended: at the element with this number, or nowhere.
-#[derive(Clone, Copy)]
-pub enum Found {
-    At(usize),
-    Nothing,
-}

@@ -1,5 +1,7 @@
 -- 'Each undoes the other': reading what was written, and writing what was read.
 use Prim.Native.Nat.{ℕ, ◌+◌, ◌*◌, ◌-◌, ◌/◌, ◌%◌, ◌≤◌, ◌<◌}
+use Rattle.tapa.specs.declared.Refusal.{Refusal}
+use Rattle.std.specs.Prelude.{Some, Result, Ok, Err}
 use mathlib.Core.Path.{◌≡◌, refl, sym, ap, ◌∙◌}
 use mathlib.Core.Bool.{Bool, true, false, cond}
 use mathlib.Core.List.{List, [], ◌∷◌}
@@ -13,10 +15,6 @@ use Rattle.tapa.specs.Numbers.{word_at, two_bytes}
 use Rattle.tapa.specs.Codes.{response}
 use Rattle.tapa.specs.declared.Refusal.TheVariants.{TooLong, BufferTooSmall}
 use Rattle.message.specs.declared.Head.{Head}
-use Rattle.message.specs.declared.Reading.TheVariants.{Message}
-use Rattle.message.specs.declared.Coded.TheVariants.{Code}
-use Rattle.message.specs.declared.Writing.{Writing}
-use Rattle.message.specs.declared.Writing.TheVariants.{Written, Refused as WriteRefused}
 use Rattle.message.specs.Message.{read_of, part_of, code_of, message_of, writing_of, Wrote, response_of}
 use Rattle.message.proofs.Laws.{reads_whole, whole, part-of-message, writes}
 
@@ -32,13 +30,13 @@ module _ (destination source kind thread : ℕ) (part : List ℕ) where
   abbrev pub given : Head
   given = record { destination = destination; source = source; kind = kind; thread = thread; length = length part }
 
-  reads-message : length part ≤ 1024 → read_of message ≡ Message given
+  reads-message : length part ≤ 1024 → read_of message ≡ Ok given
   unfolding message_of
   reads-message few =
       let l : word_at message 6 ≡ length part = both (length part) in
       let size : length message ≡ 8 + word_at message 6 = omega (arith, l) in
       reads_whole message (omega arith) (omega arith) size
-      ∙ (λ i. Message record { destination = both destination i; source = both source i; kind = kind; thread = thread; length = l i })
+      ∙ (λ i. Ok record { destination = both destination i; source = both source i; kind = kind; thread = thread; length = l i })
 
   eight-dropped : drop 8 message ≡ part
   unfolding message_of
@@ -56,12 +54,12 @@ module _ (destination source kind thread : ℕ) (part : List ℕ) where
     few : length part ≤ 1024
     size : n ≡ 8 + length part
 
-  took : (buffer : List ℕ) (n : ℕ) → Written n ≡ writing_of part buffer → Took buffer n
+  took : (buffer : List ℕ) (n : ℕ) → Ok n ≡ writing_of part buffer → Took buffer n
   unfolding writing_of
   took buffer n e = go (ltb 1024 (length part)) refl (ltb (length buffer) (8 + length part)) e
     where
       go : (a : Bool) → ltb 1024 (length part) ≡ a → (b : Bool)
-          → Written n ≡ cond a (WriteRefused TooLong) (cond b (WriteRefused BufferTooSmall) (Written (8 + length part))) → Took buffer n
+          → Ok n ≡ cond a (Err TooLong) (cond b (Err BufferTooSmall) (Ok (8 + length part))) → Took buffer n
       go true ea b k = absurd (let z : ◌≡◌ {A = ℕ} 0 1 = cc in omega arith)
       go false ea true k = absurd (let z : ◌≡◌ {A = ℕ} 0 1 = cc in omega arith)
       go false ea false k = record { few = ltb-false 1024 (length part) ea; size = (cc) }
@@ -70,10 +68,10 @@ module _ (destination source kind thread : ℕ) (part : List ℕ) where
   -- fields and the same data.
   pub record ReadsBack (after : List ℕ) (n : ℕ) : Type 0 where
     pub bytes : take n after ≡ message
-    pub fields : read_of (take n after) ≡ Message given
+    pub fields : read_of (take n after) ≡ Ok given
     pub same-part : part_of (take n after) ≡ part
 
-  pub reads-back : (before after : List ℕ) (n : ℕ) → Wrote destination source kind thread part before after (Written n) → ReadsBack after n
+  pub reads-back : (before after : List ℕ) (n : ℕ) → Wrote destination source kind thread part before after (Ok n) → ReadsBack after n
   reads-back before after n w =
       let t = took before n w.answer in
       let b : take n after ≡ message = ap (take n) (w.buffer ∙ rw (sym w.answer)) ∙ take_at message (drop (length message) before) n (long ∙ sym t.size) in
@@ -82,14 +80,14 @@ module _ (destination source kind thread : ℕ) (part : List ℕ) where
 -- a response that carries its code alone reads as that response
 pub reads-response : (destination source thread code : ℕ)
     → read_of (response_of destination source thread code)
-    ≡ Message record { destination = destination; source = source; kind = response; thread = thread; length = 2 }
+    ≡ Ok record { destination = destination; source = source; kind = response; thread = thread; length = 2 }
 unfolding response_of
 reads-response destination source thread code = reads-message destination source response thread (two_bytes code) (omega arith)
 
-pub code-response : (destination source thread code : ℕ) → code_of (part_of (response_of destination source thread code)) ≡ Code code
+pub code-response : (destination source thread code : ℕ) → code_of (part_of (response_of destination source thread code)) ≡ Some code
 unfolding response_of code_of
 code-response destination source thread code =
-    ap code_of (part-message destination source response thread (two_bytes code) (omega arith)) ∙ ap Code (both code)
+    ap code_of (part-message destination source response thread (two_bytes code) (omega arith)) ∙ ap Some (both code)
 
 -- ---- WRITING WHAT WAS READ gives the same bytes
 
@@ -111,7 +109,7 @@ high a b l = omega arith
 low : (a b : ℕ) → b < 256 → (a * 256 + b) % 256 ≡ b
 low a b l = omega arith
 
-pub writes-back : (s : List ℕ) (h : Head) → Bytes s → read_of s ≡ Message h
+pub writes-back : (s : List ℕ) (h : Head) → Bytes s → read_of s ≡ Ok h
     → message_of h.destination h.source h.kind h.thread (part_of s) ≡ s
 unfolding message_of
 writes-back s h b e =
@@ -122,12 +120,12 @@ writes-back s h b e =
     (sym (eight s (omega (arith, w.size))))
 
 -- so of the writer: given what was read, and a buffer that holds the message, it answers the message's length and leaves its bytes in front
-pub writes-read : (s : List ℕ) (h : Head) → Bytes s → read_of s ≡ Message h → (before after : List ℕ) (w : Writing) → length s ≤ length before
-    → Wrote h.destination h.source h.kind h.thread (part_of s) before after w → (w ≡ Written (length s)) × (take (length s) after ≡ s)
+pub writes-read : (s : List ℕ) (h : Head) → Bytes s → read_of s ≡ Ok h → (before after : List ℕ) (w : Result ℕ Refusal) → length s ≤ length before
+    → Wrote h.destination h.source h.kind h.thread (part_of s) before after w → (w ≡ Ok (length s)) × (take (length s) after ≡ s)
 writes-read s h b e before after w room x =
     let k = whole s h e in
     let n : length (part_of s) ≡ length s - 8 = ap length (part-of-message s h e) ∙ length-drop 8 s in
-    let answer : w ≡ Written (length s) =
-    x.answer ∙ writes (part_of s) before (omega (arith, k.size, k.few)) (omega (arith, k.size)) ∙ ap Written (omega (arith, k.size)) in
+    let answer : w ≡ Ok (length s) =
+    x.answer ∙ writes (part_of s) before (omega (arith, k.size, k.few)) (omega (arith, k.size)) ∙ ap Ok (omega (arith, k.size)) in
     let back = reads-back h.destination h.source h.kind h.thread (part_of s) before after (length s) (rw answer at x) in
     (answer, back.bytes ∙ writes-back s h b e)

@@ -1,11 +1,10 @@
 -- Table 3 written out: a message with its head and data, and a response of a code alone.
 use Prim.Native.Nat.{ℕ}
+use Rattle.std.specs.Prelude.{Some, Ok}
 use mathlib.Core.Path.{◌≡◌, refl}
 use mathlib.Core.List.{List, [], ◌∷◌, ◌++◌}
 use lib.ListN.{replicate}
 use Rattle.tapa.specs.Said.{refused, says, written}
-use Rattle.message.specs.declared.Reading.TheVariants.{Message}
-use Rattle.message.specs.declared.Coded.TheVariants.{Code}
 use Rattle.message.specs.Message.{read_of, part_of, part_start, code_of, message_of, writing_of, after_writing, response_of, responded}
 use Rattle.message.specs.Said.{said_writing}
 
@@ -14,11 +13,11 @@ abbrev answer : List ℕ
 answer = 0x01 ∷ 0x80 ∷ 0x02 ∷ 0x02 ∷ 0xFF ∷ 0x03 ∷ 0x00 ∷ 0x04 ∷ 0xAB ∷ 0xCD ∷ 0xFF ∷ 0x24 ∷ []
 
 pub record Read : Type 0 where
-  pub head : read_of answer ≡ Message (record { destination = 0x0180; source = 0x0202; kind = 0xFF; thread = 3; length = 4 })
+  pub head : read_of answer ≡ Ok (record { destination = 0x0180; source = 0x0202; kind = 0xFF; thread = 3; length = 4 })
   -- the data starts at byte 8
   pub place : part_start answer ≡ 8
   pub part : part_of answer ≡ 0xAB ∷ 0xCD ∷ 0xFF ∷ 0x24 ∷ []
-  pub code : code_of (part_of answer) ≡ Code 0xFF24
+  pub code : code_of (part_of answer) ≡ Some 0xFF24
   pub bytes : message_of 0x0180 0x0202 0xFF 3 (0xAB ∷ 0xCD ∷ 0xFF ∷ 0x24 ∷ []) ≡ answer
 
 pub read : Read

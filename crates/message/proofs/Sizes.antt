@@ -1,5 +1,6 @@
 -- Cable fault or double send (request 04): a message that was cut behind its eighth byte is 3, and one with anything stuck to it is 19.
 use Prim.Native.Nat.{ℕ, ◌+◌, ◌≤◌, ◌<◌}
+use Rattle.std.specs.Prelude.{Ok, Err}
 use mathlib.Core.Path.{◌≡◌, refl}
 use mathlib.Core.List.{List, [], ◌∷◌, ◌++◌}
 use native.Mathlib.Omega.{arith}
@@ -9,7 +10,6 @@ use Rattle.tapa.specs.Numbers.{word_at}
 use Rattle.tapa.specs.Said.{refused}
 use Rattle.tapa.specs.declared.Refusal.TheVariants.{FewerThanAnnounced, MoreThanAnnounced}
 use Rattle.message.specs.declared.Head.{Head}
-use Rattle.message.specs.declared.Reading.TheVariants.{Message, Refused}
 use Rattle.message.specs.Message.{read_of}
 use Rattle.message.specs.Said.{said_reading}
 use Rattle.message.proofs.Laws.{whole, reads-fewer, reads_more}
@@ -21,9 +21,9 @@ announced-cut s n l = rw (get_or-take n s 6 0 (omega arith), get_or-take n s 7 0
 announced-stuck : (s more : List ℕ) → 8 ≤ length s → word_at (s ++ more) 6 ≡ word_at s 6
 announced-stuck s more l = rw (get_or-append s more 0 6 (omega arith), get_or-append s more 0 7 (omega arith))
 
-module _ (s : List ℕ) (h : Head) (e : read_of s ≡ Message h) where
+module _ (s : List ℕ) (h : Head) (e : read_of s ≡ Ok h) where
   -- 'a cut cable': the start of a message, as long as its first eight bytes are in it
-  pub cut : (n : ℕ) → 8 ≤ n → n < length s → read_of (take n s) ≡ Refused FewerThanAnnounced
+  pub cut : (n : ℕ) → 8 ≤ n → n < length s → read_of (take n s) ≡ Err FewerThanAnnounced
   cut n l f =
       let w = whole s h e in
       let size : length (take n s) ≡ n = length-take-le n s (omega arith) in
@@ -31,7 +31,7 @@ module _ (s : List ℕ) (h : Head) (e : read_of s ≡ Message h) where
       reads-fewer (take n s) (omega arith) (omega (arith, w.few)) (omega (arith, w.size))
 
   -- 'two messages stuck together', or a stale byte: a message, and then any bytes
-  pub stuck : (more : List ℕ) → 1 ≤ length more → read_of (s ++ more) ≡ Refused MoreThanAnnounced
+  pub stuck : (more : List ℕ) → 1 ≤ length more → read_of (s ++ more) ≡ Err MoreThanAnnounced
   stuck more l =
       let w = whole s h e in
       let size : length (s ++ more) ≡ length s + length more = length-append s more in

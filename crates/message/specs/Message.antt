@@ -1,17 +1,12 @@
 -- The message (Table 3)
-use Rattle.std.specs.Prelude.{ℕ, ◌+◌, ◌-◌, ◌/◌, ◌%◌, ◌≡◌, Bool, true, false, cond, List, [], ◌∷◌, ◌++◌, ltb, length, drop, get_or}
+use Rattle.std.specs.Prelude.{ℕ, ◌+◌, ◌-◌, ◌/◌, ◌%◌, ◌≡◌, Bool, true, false, cond, List, [], ◌∷◌, ◌++◌, ltb, length, drop, get_or, Option, Some, None, Result, Ok, Err}
+use Rattle.tapa.specs.declared.Refusal.{Refusal}
 use Rattle.std.specs.Borrow.{Bor}
 use Rattle.lists.specs.Lists.{checks, onto, LiesAt}
 use Rattle.tapa.specs.Numbers.{word_at, two_bytes}
 use Rattle.tapa.specs.Codes.{response}
 use Rattle.tapa.specs.declared.Refusal.TheVariants.{TooShort, TooLong, FewerThanAnnounced, MoreThanAnnounced, BufferTooSmall}
 use Rattle.message.specs.declared.Head.{Head}
-use Rattle.message.specs.declared.Reading.{Reading}
-use Rattle.message.specs.declared.Reading.TheVariants.{Message, Refused}
-use Rattle.message.specs.declared.Coded.{Coded}
-use Rattle.message.specs.declared.Coded.TheVariants.{Code, Missing}
-use Rattle.message.specs.declared.Writing.{Writing}
-use Rattle.message.specs.declared.Writing.TheVariants.{Written, Refused as WriteRefused}
 
 -- ---- reading
 
@@ -26,21 +21,21 @@ head_of s = record {
 }
 
 -- 'The reader checks 1, 2, 3'; request 04: 'fewer bytes than announced stays 3, more bytes becomes 19', '19 stands at the place of 3'
-abbrev pub read_checks : List ℕ → List (Bool × Reading)
+abbrev pub read_checks : List ℕ → List (Bool × Result Head Refusal)
 read_checks s =
-    (ltb (length s) 8, Refused TooShort)
-    ∷ (ltb 1024 (word_at s 6), Refused TooLong)
-    ∷ (ltb (length s) (8 + word_at s 6), Refused FewerThanAnnounced)
-    ∷ (ltb (8 + word_at s 6) (length s), Refused MoreThanAnnounced)
+    (ltb (length s) 8, Err TooShort)
+    ∷ (ltb 1024 (word_at s 6), Err TooLong)
+    ∷ (ltb (length s) (8 + word_at s 6), Err FewerThanAnnounced)
+    ∷ (ltb (8 + word_at s 6) (length s), Err MoreThanAnnounced)
     ∷ []
 
-unfoldable pub read_of : List ℕ → Reading
-read_of s = checks (read_checks s) (Message (head_of s))
+unfoldable pub read_of : List ℕ → Result Head Refusal
+read_of s = checks (read_checks s) (Ok (head_of s))
 
 -- whether a reading is a message
-abbrev pub reads : Reading → Bool
-reads (Message h) = true
-reads (Refused r) = false
+abbrev pub reads : Result Head Refusal → Bool
+reads (Ok h) = true
+reads (Err r) = false
 
 -- 'The data starts at byte 8 and is handed on from there'; what is no message has none
 unfoldable pub part_of : List ℕ → List ℕ
@@ -56,8 +51,8 @@ pub record DataPart (message part : Bor (List ℕ)) : Type 0 where
   pub place : LiesAt (part_start message.now) message part
 
 -- 'its last two data bytes are the response code'
-unfoldable pub code_of : List ℕ → Coded
-code_of part = cond (ltb (length part) 2) Missing (Code (word_at part (length part - 2)))
+unfoldable pub code_of : List ℕ → Option ℕ
+code_of part = cond (ltb (length part) 2) None (Some (word_at part (length part - 2)))
 
 -- ---- writing
 
@@ -79,23 +74,23 @@ unfoldable pub message_of : ℕ → ℕ → ℕ → ℕ → List ℕ → List �
 message_of destination source kind thread part = head_bytes destination source kind thread (length part) ++ part
 
 -- 'the writer checks data over 1,024 (2), then a buffer under 8 + data (9)'
-abbrev pub write_checks : List ℕ → List ℕ → List (Bool × Writing)
+abbrev pub write_checks : List ℕ → List ℕ → List (Bool × Result ℕ Refusal)
 write_checks part buffer =
-    (ltb 1024 (length part), WriteRefused TooLong)
-    ∷ (ltb (length buffer) (8 + length part), WriteRefused BufferTooSmall)
+    (ltb 1024 (length part), Err TooLong)
+    ∷ (ltb (length buffer) (8 + length part), Err BufferTooSmall)
     ∷ []
 
 -- else the message's length
-unfoldable pub writing_of : List ℕ → List ℕ → Writing
-writing_of part buffer = checks (write_checks part buffer) (Written (8 + length part))
+unfoldable pub writing_of : List ℕ → List ℕ → Result ℕ Refusal
+writing_of part buffer = checks (write_checks part buffer) (Ok (8 + length part))
 
 -- 'bytes after the message stay'; a refusal leaves every byte
-abbrev pub after_writing : Writing → List ℕ → List ℕ → List ℕ
-after_writing (Written n) message buffer = onto message buffer
-after_writing (WriteRefused r) message buffer = buffer
+abbrev pub after_writing : Result ℕ Refusal → List ℕ → List ℕ → List ℕ
+after_writing (Ok n) message buffer = onto message buffer
+after_writing (Err r) message buffer = buffer
 
 -- what a call of the writer answers, and what its buffer then holds
-pub record Wrote (destination source kind thread : ℕ) (part before after : List ℕ) (w : Writing) : Type 0 where
+pub record Wrote (destination source kind thread : ℕ) (part before after : List ℕ) (w : Result ℕ Refusal) : Type 0 where
   pub answer : w ≡ writing_of part before
   pub buffer : after ≡ after_writing (writing_of part before) (message_of destination source kind thread part) before
 

@@ -18,21 +18,3 @@ pub struct Head {
     pub length: usize,
 }
 
-#[derive(Clone, Copy)]
-pub enum Reading {
-    Message(Head),
-    Refused(Refusal),
-}
-
-// A response's code, or none where its data has under two bytes.
-#[derive(Clone, Copy)]
-pub enum Coded {
-    Code(u16),
-    Missing,
-}
-
-#[derive(Clone, Copy)]
-pub enum Writing {
-    Written(usize),
-    Refused(Refusal),
-}

@@ -7,27 +7,27 @@
 ghost use Rattle.std.specs.Prelude.{◌≡◌};
 ghost use Rattle.message.specs.Message.{read_of, DataPart, code_of};
 
-use message::{Coded, Head, Reading};
+use message::Head;
 use tapa::Refusal;
 
 // The head of a message, or why these bytes are none.
-pub fn read(message: &[u8]) -> Reading
+pub fn read(message: &[u8]) -> Result<Head, Refusal>
     ensures { result ≡ read_of message.now }
 {
     if message.len() < 8 {
-        return Reading::Refused(Refusal::TooShort);
+        return Err(Refusal::TooShort);
     }
     let length = tapa::pair(message[6], message[7]) as usize;
     if 1024 < length {
-        return Reading::Refused(Refusal::TooLong);
+        return Err(Refusal::TooLong);
     }
     if message.len() < 8 + length {
-        return Reading::Refused(Refusal::FewerThanAnnounced);
+        return Err(Refusal::FewerThanAnnounced);
     }
     if 8 + length < message.len() {
-        return Reading::Refused(Refusal::MoreThanAnnounced);
+        return Err(Refusal::MoreThanAnnounced);
     }
-    Reading::Message(Head {
+    Ok(Head {
         destination: tapa::pair(message[0], message[1]),
         source: tapa::pair(message[2], message[3]),
         kind: message[4],
@@ -41,19 +41,19 @@ pub fn data_part(message: &[u8]) -> &[u8]
     ensures { DataPart message.entry result }
 {
     match read(message) {
-        Reading::Message(_) => &message[8..],
-        Reading::Refused(_) => &message[0..0],
+        Ok(_) => &message[8..],
+        Err(_) => &message[0..0],
     }
 }
 
 // The last two bytes of a response's data.
 #[tactic(auto, unfolding(message::specs::Message::code_of))]
-pub fn response_code(part: &[u8]) -> Coded
+pub fn response_code(part: &[u8]) -> Option<u16>
     ensures { result ≡ code_of part.now }
 {
     let n = part.len();
     if n < 2 {
-        return Coded::Missing;
+        return None;
     }
-    Coded::Code(tapa::pair(part[n - 2], part[n - 1]))
+    Some(tapa::pair(part[n - 2], part[n - 1]))
 }

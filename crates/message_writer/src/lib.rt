@@ -7,7 +7,6 @@ ghost use Rattle.std.specs.Prelude.{◌≡◌, ◌≤◌, length};
 ghost use Rattle.lists.specs.Lists.{onto};
 ghost use Rattle.message.specs.Message.{head_bytes, Wrote, responded};
 
-use message::Writing;
 use tapa::Refusal;
 
 fn put_head(buffer: &mut [u8], destination: u16, source: u16, kind: u8, thread: u8, long: usize)
@@ -33,19 +32,19 @@ pub fn write(
     kind: u8,
     thread: u8,
     part: &[u8],
-) -> Writing
+) -> Result<usize, Refusal>
     ensures { Wrote destination source kind thread part.now buffer.old buffer.new result }
 {
     let length = part.len();
     if 1024 < length {
-        return Writing::Refused(Refusal::TooLong);
+        return Err(Refusal::TooLong);
     }
     if buffer.len() < 8 + length {
-        return Writing::Refused(Refusal::BufferTooSmall);
+        return Err(Refusal::BufferTooSmall);
     }
     put_head(buffer, destination, source, kind, thread, length);
     octets::copy(part, &mut buffer[8..]);
-    Writing::Written(8 + length)
+    Ok(8 + length)
 }
 
 // Writes a response that carries its code alone: ten bytes, where the buffer has them.

@@ -1,5 +1,6 @@
 -- Where a number stands: a cell is of one row, and a row is of one handler.
 use Prim.Native.Nat.{ℕ, zero, suc, ◌+◌, ◌/◌, ◌<◌, ◌≤◌}
+use Rattle.std.specs.Prelude.{Option, Some, None}
 use mathlib.Core.Path.{◌≡◌, refl, sym, ap, ◌∙◌}
 use mathlib.Core.Bool.{Bool, true, false, cond}
 use mathlib.Core.List.{List, [], ◌∷◌}
@@ -8,8 +9,6 @@ use lib.Dec.{eqb, ltb}
 use lib.ListN.{length, get_or, set, length-set}
 use lib.Seq.{get_or-set_same, get_or-set_other, set_out}
 use borrow.Author.Tests.{eqb-true, eqb-false, eq-eqb, ltb-false}
-use Rattle.lists.specs.declared.Found.{Found}
-use Rattle.lists.specs.declared.Found.TheVariants.{At, Nothing}
 use Rattle.lists.specs.Lists.{find}
 use Rattle.lists.proofs.Tests.{split, differ}
 use Rattle.lists.proofs.Numbers.{find-inside, find-changed}
@@ -27,16 +26,16 @@ use Rattle.numbers.specs.Numbers.{cell_in, cell_by, cell_of, in_cell, put_at, wi
 
 -- ---- a row's number is its handler's alone
 
-pub one-row : (g h : ℕ) (rows : List Row) (i : ℕ) → find (is_at g) rows ≡ At i → find (is_at h) rows ≡ At i → g ≡ h
+pub one-row : (g h : ℕ) (rows : List Row) (i : ℕ) → find (is_at g) rows ≡ Some i → find (is_at h) rows ≡ Some i → g ≡ h
 one-row g h [] i e f = differ (cc)
 one-row g h (r ∷ rows) i e f =
     split (is_at g r)
-    (λ p. let e' : At (length rows) ≡ At i = rw p at e in let k : length rows ≡ i = cc in
+    (λ p. let e' : Some (length rows) ≡ Some i = rw p at e in let k : length rows ≡ i = cc in
     split (is_at h r) (λ q. sym (eqb-true r.address g p) ∙ eqb-true r.address h q)
-    (λ q. let f' : find (is_at h) rows ≡ At i = rw q at f in absurd (omega (arith, find-inside (is_at h) rows i f'))))
-    (λ p. let e' : find (is_at g) rows ≡ At i = rw p at e in
+    (λ q. let f' : find (is_at h) rows ≡ Some i = rw q at f in absurd (omega (arith, find-inside (is_at h) rows i f'))))
+    (λ p. let e' : find (is_at g) rows ≡ Some i = rw p at e in
     split (is_at h r)
-    (λ q. let f' : At (length rows) ≡ At i = rw q at f in let k : length rows ≡ i = cc in absurd (omega (arith, find-inside (is_at g) rows i e')))
+    (λ q. let f' : Some (length rows) ≡ Some i = rw q at f in let k : length rows ≡ i = cc in absurd (omega (arith, find-inside (is_at g) rows i e')))
     (λ q. one-row g h rows i e' (rw q at f)))
 
 -- opening and closing move no row
@@ -47,7 +46,7 @@ row_stays v o h =
 
 pub cell_stays : (v : View) (o : Outcome) (h t : ℕ) → cell_of (rows_after o v) h t ≡ cell_of v.rows h t
 unfolding cell_of
-cell_stays v o h t = ap (λ (f : Found). cell_by f h t) (row_stays v o h)
+cell_stays v o h t = ap (λ (f : Option ℕ). cell_by f h t) (row_stays v o h)
 
 -- ---- a cell names its row
 
@@ -55,37 +54,37 @@ pub low : (b : Bool) (t : ℕ) → t ≤ 7 → cond b t 0 ≤ 7
 low true t l = l
 low false t l = omega arith
 
-pub cell-is : (rows : List Row) (g t j : ℕ) → t ≤ 7 → j < 128 → cell_of rows g t ≡ j → find (is_at g) rows ≡ At (j / 8)
+pub cell-is : (rows : List Row) (g t j : ℕ) → t ≤ 7 → j < 128 → cell_of rows g t ≡ j → find (is_at g) rows ≡ Some (j / 8)
 unfolding cell_of
 cell-is rows g t j l m e = go (find (is_at g) rows) refl e
   where
-    go : (f : Found) → find (is_at g) rows ≡ f → cell_by f g t ≡ j → find (is_at g) rows ≡ At (j / 8)
-    go Nothing q z = let z' : 128 ≡ j = z in absurd (omega arith)
-    go (At i) q z =
+    go : (f : Option ℕ) → find (is_at g) rows ≡ f → cell_by f g t ≡ j → find (is_at g) rows ≡ Some (j / 8)
+    go None q z = let z' : 128 ≡ j = z in absurd (omega arith)
+    go (Some i) q z =
         let z' : cell_in i g t ≡ j = z in
-        let d : i ≡ j / 8 = omega (arith, low (multi g) t l) in q ∙ ap At d
+        let d : i ≡ j / 8 = omega (arith, low (multi g) t l) in q ∙ ap Some d
 
-pub cell_at : (rows : List Row) (g t i : ℕ) → find (is_at g) rows ≡ At i → cell_of rows g t ≡ cell_in i g t
+pub cell_at : (rows : List Row) (g t i : ℕ) → find (is_at g) rows ≡ Some i → cell_of rows g t ≡ cell_in i g t
 unfolding cell_of
-cell_at rows g t i e = ap (λ (f : Found). cell_by f g t) e
+cell_at rows g t i e = ap (λ (f : Option ℕ). cell_by f g t) e
 
-pub cell-none : (rows : List Row) (g t : ℕ) → find (is_at g) rows ≡ Nothing → cell_of rows g t ≡ 128
+pub cell-none : (rows : List Row) (g t : ℕ) → find (is_at g) rows ≡ None → cell_of rows g t ≡ 128
 unfolding cell_of
-cell-none rows g t e = ap (λ (f : Found). cell_by f g t) e
+cell-none rows g t e = ap (λ (f : Option ℕ). cell_by f g t) e
 
 -- the places of a cell ask the handler of its row, and those that ask it stand in a cell of its row
-pub cell-asks : (rows : List Row) (h i j : ℕ) (x : Place) → Placed rows x → j < 128 → j / 8 ≡ i → find (is_at h) rows ≡ At i → in_cell rows j x ≡ true
+pub cell-asks : (rows : List Row) (h i j : ℕ) (x : Place) → Placed rows x → j < 128 → j / 8 ≡ i → find (is_at h) rows ≡ Some i → in_cell rows j x ≡ true
     → asks h x ≡ true
 cell-asks rows h i j x p m d e q =
     let g = handler_of x.asked in
     let z = cell-is rows g x.thread j p.1 m (eqb-true (cell_of rows g x.thread) j q) in
-    eq-eqb g h (one-row g h rows i (z ∙ ap At d) e)
+    eq-eqb g h (one-row g h rows i (z ∙ ap Some d) e)
 
-pub asks-cell : (rows : List Row) (h i j : ℕ) (x : Place) → Placed rows x → find (is_at h) rows ≡ At i → in_cell rows j x ≡ true → asks h x ≡ true
+pub asks-cell : (rows : List Row) (h i j : ℕ) (x : Place) → Placed rows x → find (is_at h) rows ≡ Some i → in_cell rows j x ≡ true → asks h x ≡ true
     → j / 8 ≡ i
 asks-cell rows h i j x p e q a =
     let g = handler_of x.asked in
-    let f : find (is_at g) rows ≡ At i = ap (λ (k : ℕ). find (is_at k) rows) (eqb-true g h a) ∙ e in
+    let f : find (is_at g) rows ≡ Some i = ap (λ (k : ℕ). find (is_at k) rows) (eqb-true g h a) ∙ e in
     let z = cell_at rows g x.thread i f in
     let y = eqb-true (cell_of rows g x.thread) j q in
     omega (arith, low (multi g) x.thread p.1)

@@ -1,5 +1,6 @@
 -- The answer by the kept number is the answer of the full walk.
 use Prim.Native.Nat.{ℕ, ◌+◌, ◌*◌, ◌≤◌}
+use Rattle.std.specs.Prelude.{Option, Some, None}
 use mathlib.Core.Path.{◌≡◌, refl, sym, ap, ◌∙◌}
 use mathlib.Core.Bool.{Bool, true, false, not, ◌||◌, ◌&&◌, cond}
 use mathlib.Core.List.{List, [], ◌∷◌}
@@ -7,8 +8,6 @@ use native.Mathlib.Omega.{arith}
 use lib.Dec.{eqb, ltb}
 use lib.ListN.{length, get_or}
 use borrow.Author.Tests.{eqb-true, eqb-false, ne_eqb, eq-eqb, ltb-false}
-use Rattle.lists.specs.declared.Found.{Found}
-use Rattle.lists.specs.declared.Found.TheVariants.{At, Nothing}
 use Rattle.lists.specs.Lists.{count, find, some_of}
 use Rattle.lists.proofs.Tests.{split, clash, eqb_same}
 use Rattle.lists.proofs.Counts.{none-zero, count-some, count-all}
@@ -55,7 +54,7 @@ engaged-is h t (x ∷ l) =
 
 -- ---- a handler's cell
 
-pub slot-cell : (rows : List Row) (h t i : ℕ) (x : Place) → t ≤ 7 → length rows ≤ 16 → find (is_at h) rows ≡ At i → Placed rows x
+pub slot-cell : (rows : List Row) (h t i : ℕ) (x : Place) → t ≤ 7 → length rows ≤ 16 → find (is_at h) rows ≡ Some i → Placed rows x
     → in_cell rows (cell_of rows h t) x ≡ on_slot h t x
 slot-cell rows h t i x l few e p =
     let k = cell_at rows h t i e in
@@ -75,7 +74,7 @@ slot-cell rows h t i x l few e p =
 
 -- ---- the answer
 
-module _ (v : View) (n : List ℕ) (p : Proper v.rows) (d : Conduct v) (c : Counted v.rows v.places n) (h t i : ℕ) (l : t ≤ 7) (e : find (is_at h) v.rows ≡ At i) where
+module _ (v : View) (n : List ℕ) (p : Proper v.rows) (d : Conduct v) (c : Counted v.rows v.places n) (h t i : ℕ) (l : t ≤ 7) (e : find (is_at h) v.rows ≡ Some i) where
   -- the kept number is the count of the full walk
   pub number_is : get_or n (cell_in i h t) 0 ≡ count (on_slot h t) v.places
   number_is =
@@ -97,9 +96,9 @@ pub free-as-walked : (v : View) (n : List ℕ) → Proper v.rows → Conduct v �
 unfolding free_of free_in
 free-as-walked v n p d c a t = go (find (is_at (handler_of a)) v.rows) refl
   where
-    go : (w : Found) → find (is_at (handler_of a)) v.rows ≡ w → free_by w n (handler_of a) t ≡ free_of v a t
-    go Nothing e = rw (none_passes (is_at (handler_of a)) v.rows (find_none (is_at (handler_of a)) v.rows e))
-    go (At i) e =
+    go : (w : Option ℕ) → find (is_at (handler_of a)) v.rows ≡ w → free_by w n (handler_of a) t ≡ free_of v a t
+    go None e = rw (none_passes (is_at (handler_of a)) v.rows (find_none (is_at (handler_of a)) v.rows e))
+    go (Some i) e =
         rw (found_some (is_at (handler_of a)) v.rows i e)
         (split (ltb 7 t) (λ b. rw b)
         (λ b. rw (b, free-is v n p d c (handler_of a) t i (ltb-false 7 t b) e, engaged-is (handler_of a) t v.places)

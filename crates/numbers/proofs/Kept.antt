@@ -1,16 +1,14 @@
 -- After every outcome that a call can have each number is the count of the full walk.
 use Prim.Native.Nat.{ℕ, ◌+◌, ◌*◌, ◌-◌, ◌/◌, ◌<◌, ◌≤◌}
+use Rattle.std.specs.Prelude.{Option, Some, None}
 use mathlib.Core.Path.{◌≡◌, refl, sym, ap, ◌∙◌}
 use mathlib.Core.Bool.{Bool, true, false, cond, or-true, and-false}
 use mathlib.Core.List.{List, [], ◌∷◌}
-use mathlib.Core.Option.{some}
 use native.Mathlib.Omega.{arith}
 use lib.Dec.{eqb}
 use lib.ListN.{length, get_or, set, length-set, length-replicate}
 use lib.Seq.{get_or-set_same, get_or-set_other}
 use borrow.Author.Tests.{eqb-true, eqb-false}
-use Rattle.lists.specs.declared.Found.{Found}
-use Rattle.lists.specs.declared.Found.TheVariants.{At, Nothing}
 use Rattle.lists.specs.Lists.{one, count, find, first, some_of, keep, without, All}
 use Rattle.lists.proofs.Tests.{split, clash, and_yes}
 use Rattle.lists.proofs.Counts.{count-ext, count-gone, count_kept, All-none}
@@ -63,7 +61,7 @@ more rows ps n p c =
     let g : get_or n k 0 ≡ count (in_cell rows j) ps = ap (λ (i : ℕ). get_or n i 0) q ∙ c.each j l in rw e (omega arith))
     (λ e. rw e (omega arith)))
 
-less : (rows : List Row) (ps : List Place) (n : List ℕ) (r : Place → Bool) (x : Place) (a t : ℕ) → first r ps ≡ some x → x.asked ≡ a → x.thread ≡ t
+less : (rows : List Row) (ps : List Place) (n : List ℕ) (r : Place → Bool) (x : Place) (a t : ℕ) → first r ps ≡ Some x → x.asked ≡ a → x.thread ≡ t
     → Counted rows ps n → Counted rows (without r ps) (lowered_at (cell_of rows (handler_of a) t) n)
 less rows ps n r x a t f ea et c =
     let k = cell_of rows (handler_of a) t in
@@ -81,7 +79,7 @@ less rows ps n r x a t f ea et c =
 
 -- what counts in the row's eight cells is owed by its handler, and what counts in others is not
 reset-row : (rows : List Row) (ps : List Place) (n : List ℕ) (h i : ℕ) → length rows ≤ 16 → All (Placed rows) ps → some_of (stands_in h) ps ≡ false
-    → find (is_at h) rows ≡ At i → Counted rows ps n → Counted rows (keep (not_owed_by h) ps) (wiped (8 * i) 8 n)
+    → find (is_at h) rows ≡ Some i → Counted rows ps n → Counted rows (keep (not_owed_by h) ps) (wiped (8 * i) 8 n)
 reset-row rows ps n h i few pl idle e c =
     let inside = find-inside (is_at h) rows i e in
     record {
@@ -139,9 +137,9 @@ counted-in v (Given asker asked t) n p d f c = record {
 }
 counted-in v (Reset h) n p d f c = go (find (is_at h) v.rows) refl
   where
-    go : (w : Found) → find (is_at h) v.rows ≡ w → Counted v.rows (keep (not_owed_by h) v.places) (wiped_row w n)
-    go Nothing e = clash (some_of (is_at h) v.rows) f.in_table (none_passes (is_at h) v.rows (find_none (is_at h) v.rows e))
-    go (At i) e = reset-row v.rows v.places n h i p.few d.placed f.no-wait e c
+    go : (w : Option ℕ) → find (is_at h) v.rows ≡ w → Counted v.rows (keep (not_owed_by h) v.places) (wiped_row w n)
+    go None e = clash (some_of (is_at h) v.rows) f.in_table (none_passes (is_at h) v.rows (find_none (is_at h) v.rows e))
+    go (Some i) e = reset-row v.rows v.places n h i p.few d.placed f.no-wait e c
 counted-in v (Refused r) n p d f c = c
 
 -- 'after every call, replaced included': the numbers are those of the next view

@@ -1,8 +1,8 @@
 -- Which calls move no number.
 use Prim.Native.Nat.{ℕ}
+use Rattle.std.specs.Prelude.{Option, Some, None}
 use mathlib.Core.Path.{◌≡◌, refl}
 use mathlib.Core.List.{List}
-use mathlib.Core.Option.{Option, none, some}
 use lib.Dec.{ltb}
 use Rattle.lists.proofs.Tests.{split}
 use Rattle.table.specs.declared.Row.{Row}
@@ -20,5 +20,5 @@ give-up-numbers rows n v room t a =
     (λ p. rw p (split (ltb 7 t) (λ q. rw q) (λ q. rw q (go (answerable v.places a t)))))
   where
     go : (o : Option Place) → n ≡ numbers_after rows (yields v.places o t a) n
-    go none = refl
-    go (some w) = split (holding v.places a t) (λ p. rw p) (λ p. rw p)
+    go None = refl
+    go (Some w) = split (holding v.places a t) (λ p. rw p) (λ p. rw p)

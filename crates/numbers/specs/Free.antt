@@ -1,7 +1,5 @@
 -- 'The question takes a handler and a thread and gives yes exactly when that number is 0.'
-use Rattle.std.specs.Prelude.{ℕ, Bool, true, not, ◌||◌, ◌&&◌, cond, List, [], ◌∷◌, eqb, ltb, get_or}
-use Rattle.lists.specs.declared.Found.{Found}
-use Rattle.lists.specs.declared.Found.TheVariants.{At, Nothing}
+use Rattle.std.specs.Prelude.{ℕ, Bool, true, not, ◌||◌, ◌&&◌, cond, List, [], ◌∷◌, eqb, ltb, get_or, Option, Some, None}
 use Rattle.lists.specs.Lists.{checks, find, some_of}
 use Rattle.tapa.specs.Address.{handler_of, multi}
 use Rattle.tapa.specs.declared.Refusal.TheVariants.{NotInTable, ThreadAbove7}
@@ -33,9 +31,9 @@ free_of v a t =
 
 -- ---- by the kept number: one row, and one number
 
-abbrev pub free_by : Found → List ℕ → (handler thread : ℕ) → Freedom
-free_by Nothing n h t = Refused NotInTable
-free_by (At i) n h t = checks ((ltb 7 t, Refused ThreadAbove7) ∷ []) (cond (eqb (get_or n (cell_in i h t) 0) 0) Yes No)
+abbrev pub free_by : Option ℕ → List ℕ → (handler thread : ℕ) → Freedom
+free_by None n h t = Refused NotInTable
+free_by (Some i) n h t = checks ((ltb 7 t, Refused ThreadAbove7) ∷ []) (cond (eqb (get_or n (cell_in i h t) 0) 0) Yes No)
 
 unfoldable pub free_in : List Row → (numbers : List ℕ) → (address thread : ℕ) → Freedom
 free_in rows n a t = free_by (find (is_at (handler_of a)) rows) n (handler_of a) t

@@ -1,7 +1,5 @@
 -- 'Keep for each handler the number of waits that ask it and of owings it has, per thread for the multi ones.'
-use Rattle.std.specs.Prelude.{ℕ, zero, suc, ◌+◌, ◌*◌, ◌-◌, ◌<◌, ◌≤◌, ◌≡◌, Bool, cond, List, eqb, ltb, length, get_or, set, replicate}
-use Rattle.lists.specs.declared.Found.{Found}
-use Rattle.lists.specs.declared.Found.TheVariants.{At, Nothing}
+use Rattle.std.specs.Prelude.{ℕ, zero, suc, ◌+◌, ◌*◌, ◌-◌, ◌<◌, ◌≤◌, ◌≡◌, Bool, cond, List, eqb, ltb, length, get_or, set, replicate, Option, Some, None}
 use Rattle.lists.specs.Lists.{count, find}
 use Rattle.tapa.specs.Address.{handler_of, multi}
 use Rattle.table.specs.declared.Row.{Row}
@@ -17,9 +15,9 @@ abbrev pub cell_in : (i handler thread : ℕ) → ℕ
 cell_in i h t = 8 * i + cond (multi h) t 0
 
 -- a handler that has no row has no cell: past the 128
-abbrev pub cell_by : Found → (handler thread : ℕ) → ℕ
-cell_by Nothing h t = 128
-cell_by (At i) h t = cell_in i h t
+abbrev pub cell_by : Option ℕ → (handler thread : ℕ) → ℕ
+cell_by None h t = 128
+cell_by (Some i) h t = cell_in i h t
 
 unfoldable pub cell_of : List Row → (handler thread : ℕ) → ℕ
 cell_of rows h t = cell_by (find (is_at h) rows) h t
@@ -58,9 +56,9 @@ wiped at zero n = n
 wiped at (suc k) n = set (wiped at k n) (at + k) 0
 
 -- nor on any of the eight threads of a row
-abbrev pub wiped_row : Found → List ℕ → List ℕ
-wiped_row Nothing n = n
-wiped_row (At i) n = wiped (8 * i) 8 n
+abbrev pub wiped_row : Option ℕ → List ℕ → List ℕ
+wiped_row None n = n
+wiped_row (Some i) n = wiped (8 * i) 8 n
 
 -- A passed command is one more for the handler that it asks, an answered or swallowed response one less. A wait that is given up becomes an owing,
 -- so the number stays. Replaced: 'its owings end', and it stands in no wait.

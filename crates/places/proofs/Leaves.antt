@@ -1,10 +1,9 @@
 -- A thread's tree in the list: what `leaf_at` and `standing_of` answer, told by the tests.
 use Prim.Native.Nat.{ℕ}
+use Rattle.std.specs.Prelude.{Option, Some, None}
 use mathlib.Core.Path.{◌≡◌, refl}
 use mathlib.Core.Bool.{Bool, true, false}
 use mathlib.Core.List.{List}
-use Rattle.lists.specs.declared.Found.{Found}
-use Rattle.lists.specs.declared.Found.TheVariants as found
 use Rattle.lists.specs.Lists.{some_of, find}
 use Rattle.lists.proofs.Tests.{split, differ, and_yes}
 use Rattle.lists.proofs.Counts.{some-le}
@@ -16,31 +15,31 @@ use Rattle.places.specs.Places.{open_on, asks_exactly, stands, stands_on, holdin
 
 -- ---- the wait that asks an address
 
-by-missing : (b : Bool) (f : Found) → leaf_by b f ≡ Missing → f ≡ found.Nothing
-by-missing b found.Nothing e = refl
-by-missing true (found.At i) e = differ (cc)
-by-missing false (found.At i) e = differ (cc)
+by-missing : (b : Bool) (f : Option ℕ) → leaf_by b f ≡ Missing → f ≡ None
+by-missing b None e = refl
+by-missing true (Some i) e = differ (cc)
+by-missing false (Some i) e = differ (cc)
 
-by-holds : (b : Bool) (f : Found) → leaf_by b f ≡ Holds → (b ≡ true) × (i : ℕ) × (f ≡ found.At i)
-by-holds b found.Nothing e = differ (cc)
-by-holds true (found.At i) e = (refl, i, refl)
-by-holds false (found.At i) e = differ (cc)
+by-holds : (b : Bool) (f : Option ℕ) → leaf_by b f ≡ Holds → (b ≡ true) × (i : ℕ) × (f ≡ Some i)
+by-holds b None e = differ (cc)
+by-holds true (Some i) e = (refl, i, refl)
+by-holds false (Some i) e = differ (cc)
 
-by-leaf : (b : Bool) (f : Found) (i : ℕ) → leaf_by b f ≡ At i → (b ≡ false) × (f ≡ found.At i)
-by-leaf b found.Nothing i e = differ (cc)
-by-leaf true (found.At j) i e = differ (cc)
-by-leaf false (found.At j) i e = (refl, cc)
+by-leaf : (b : Bool) (f : Option ℕ) (i : ℕ) → leaf_by b f ≡ At i → (b ≡ false) × (f ≡ Some i)
+by-leaf b None i e = differ (cc)
+by-leaf true (Some j) i e = differ (cc)
+by-leaf false (Some j) i e = (refl, cc)
 
 module _ (a t : ℕ) (ps : List Place) where
-  pub leaf-missing : leaf_of a t ps ≡ Missing → find (asks_exactly a t) ps ≡ found.Nothing
+  pub leaf-missing : leaf_of a t ps ≡ Missing → find (asks_exactly a t) ps ≡ None
   unfolding leaf_of
   leaf-missing e = by-missing (holding ps a t) (find (asks_exactly a t) ps) e
 
-  pub leaf-holds : leaf_of a t ps ≡ Holds → (holding ps a t ≡ true) × (i : ℕ) × (find (asks_exactly a t) ps ≡ found.At i)
+  pub leaf-holds : leaf_of a t ps ≡ Holds → (holding ps a t ≡ true) × (i : ℕ) × (find (asks_exactly a t) ps ≡ Some i)
   unfolding leaf_of
   leaf-holds e = by-holds (holding ps a t) (find (asks_exactly a t) ps) e
 
-  pub leaf-found : (i : ℕ) → leaf_of a t ps ≡ At i → (holding ps a t ≡ false) × (find (asks_exactly a t) ps ≡ found.At i)
+  pub leaf-found : (i : ℕ) → leaf_of a t ps ≡ At i → (holding ps a t ≡ false) × (find (asks_exactly a t) ps ≡ Some i)
   unfolding leaf_of
   leaf-found i e = by-leaf (holding ps a t) (find (asks_exactly a t) ps) i e
 

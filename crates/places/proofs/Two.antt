@@ -1,9 +1,9 @@
 -- One list of places seen as two, the waits and the owings: what the changes of the list do to each.
 use Prim.Native.Nat.{ℕ, ◌+◌}
+use Rattle.std.specs.Prelude.{Some}
 use mathlib.Core.Path.{◌≡◌, refl, sym, ap}
 use mathlib.Core.Bool.{Bool, true, false, not, ◌&&◌}
 use mathlib.Core.List.{List}
-use mathlib.Core.Option.{some}
 use native.Mathlib.Omega.{arith}
 use lib.ListN.{length}
 use Rattle.lists.specs.Lists.{one, count, keep, first, without, changed}
@@ -53,7 +53,7 @@ module _ (q : Place → Bool) (opened : (x : Place) → q x ≡ true → is_open
   waits-given = changed-out q is_open opened owing (λ x. refl) ps
 
   pub owings-given : (p : Place → Bool) (y : Place)
-      → first q ps ≡ some y
+      → first q ps ≡ Some y
       → count p (owings (changed owing q ps)) ≡ one (p (owing y)) + count p (owings ps)
   owings-given p y e = changed-in q is_owed (λ x k. open-not-owed x (opened x k)) owing (λ x. refl) p ps y e
 

@@ -1,7 +1,5 @@
 -- The passed commands that are not done with: what their list is. The words on one of them are passed on from room place.
-use Rattle.std.specs.Prelude.{ℕ, Bool, cond, List, ◌∷◌, ltb, get_or, length}
-use Rattle.lists.specs.declared.Found.{Found}
-use Rattle.lists.specs.declared.Found.TheVariants as found
+use Rattle.std.specs.Prelude.{ℕ, Bool, cond, List, ◌∷◌, ltb, get_or, length, Option, Some, None}
 use Rattle.lists.specs.Lists.{some_of, find, keep}
 use Rattle.lists.specs.Arrays.{held, Holding, Becoming}
 use Rattle.tapa.specs.Address.{handler_of}
@@ -46,9 +44,9 @@ abbrev pub holding : List Place → (a t : ℕ) → Bool
 holding ps a t = some_of (holds_on t (handler_of a)) ps
 
 -- the number of the wait of the thread t that asks exactly a, a leaf where its handler holds no question there
-abbrev pub leaf_by : (holds : Bool) → Found → Leaf
-leaf_by b found.Nothing = Missing
-leaf_by b (found.At i) = cond b Holds (At i)
+abbrev pub leaf_by : (holds : Bool) → Option ℕ → Leaf
+leaf_by b None = Missing
+leaf_by b (Some i) = cond b Holds (At i)
 
 unfoldable pub leaf_of : (a t : ℕ) → List Place → Leaf
 leaf_of a t ps = leaf_by (holding ps a t) (find (asks_exactly a t) ps)

@@ -13,7 +13,6 @@ ghost use Rattle.lists.specs.Lists.{onto};
 ghost use Rattle.cutter.specs.Cutting.{start_of, thread_of, PartToCut, command_head, command_of, cutter_at, HandsOut, Steps, Begins, Firsts};
 
 use cutter::{Begun, Cut, Cutter, First, Handed, Start, Step};
-use message::Reading;
 use tapa::Refusal;
 
 // ---- the start
@@ -24,8 +23,8 @@ pub fn start_check(message: &[u8]) -> Start
     ensures { result ≡ start_of message.now }
 {
     match message_reader::read(message) {
-        Reading::Refused(refusal) => Start::Refused(refusal),
-        Reading::Message(head) => {
+        Err(refusal) => Start::Refused(refusal),
+        Ok(head) => {
             if head.kind != tapa::RESPONSE {
                 return Start::Refused(Refusal::NotThisPartsMessage);
             }

@@ -13,7 +13,6 @@ ghost use Rattle.lists.specs.Lists.{onto};
 ghost use Rattle.joiner.specs.Joining.{fresh_joiner, counting, taking_of, joined_with, whole_of, whole_answer, whole_bytes, completed, Joins, PartFor, Asks};
 
 use joiner::{Answer, Joined, Joiner, Taking, Whole};
-use message::Writing;
 use tapa::Refusal;
 
 // ---- one piece
@@ -171,16 +170,16 @@ pub fn joined_part(answer: Answer, buffer: &[u8]) -> &[u8]
 }
 
 // Writes Get Next for a thread (Table 116), and answers its length.
-pub fn get_next(thread: u8, buffer: &mut [u8]) -> Writing
+pub fn get_next(thread: u8, buffer: &mut [u8]) -> Result<usize, Refusal>
     ensures { Asks thread buffer.old buffer.new result }
 {
     if buffer.len() < 5 {
-        return Writing::Refused(Refusal::BufferTooSmall);
+        return Err(Refusal::BufferTooSmall);
     }
     buffer[0] = 0xB0;
     buffer[1] = 0xFC;
     buffer[2] = thread;
     buffer[3] = 0x00;
     buffer[4] = 0x00;
-    Writing::Written(5)
+    Ok(5)
 }

@@ -8,7 +8,6 @@ ghost use Rattle.std.specs.Prelude.{◌≡◌, ◌≤◌};
 ghost use Rattle.joiner.specs.Joining.{with_source, kept_of};
 
 use joiner::{Joiner, Keeping, Kept};
-use message::Reading;
 use tapa::Refusal;
 
 // The joiner with a source in a thread's place.
@@ -34,11 +33,11 @@ pub fn keep(joiner: Joiner, message: &[u8]) -> Kept
     ensures { result ≡ kept_of joiner message.now }
 {
     match message_reader::read(message) {
-        Reading::Refused(refusal) => Kept {
+        Err(refusal) => Kept {
             answer: Keeping::Refused(refusal),
             next: joiner,
         },
-        Reading::Message(head) => {
+        Ok(head) => {
             if head.kind != tapa::ICC_COMMAND {
                 return Kept {
                     answer: Keeping::Refused(Refusal::NotThisPartsMessage),

@@ -1,9 +1,9 @@
 -- Laws of the events that a ring keeps: read from its start on, one more at the end, one taken out.
 use Prim.Native.Nat.{ℕ, zero, suc, ◌+◌, ◌*◌, ◌-◌, ◌/◌, ◌%◌, ◌≤◌, ◌<◌}
+use Rattle.std.specs.Prelude.{Some}
 use mathlib.Core.Path.{◌≡◌, refl, sym, ap, ◌∙◌}
 use mathlib.Core.Bool.{Bool, true, false}
 use mathlib.Core.List.{List, [], ◌∷◌, ◌++◌, append-nil}
-use mathlib.Core.Option.{some}
 use native.Mathlib.Numerals.{add-one}
 use native.Mathlib.Omega.{arith}
 use lib.Dec.{eqb, ltb}
@@ -11,7 +11,6 @@ use lib.ListN.{length, replicate, get_or, set, length-set, length-replicate, get
 use lib.Seq.{append_snoc, get_or-set_same, get_or-set_other}
 use borrow.Author.Tests.{lt-ltb, le-ltb, ltb-true, ltb-false, eq-eqb, ne_eqb, eqb-true, eqb-false}
 use Rattle.lists.specs.Lists.{first, find, without_at}
-use Rattle.lists.specs.declared.Found.TheVariants.{At}
 use Rattle.lists.proofs.Tests.{split, differ}
 use Rattle.lists.proofs.Numbers.{find-inside}
 use Rattle.lists.proofs.Cells.{same-all, set-small}
@@ -59,10 +58,10 @@ pub len : (l : List ℕ) (s i n : ℕ) → length (events_from l s i n) ≡ n
 len l s i zero = refl
 len l s i (suc n) = ap suc (len l s (suc i) n)
 
-pub oldest-there : (l : List ℕ) (s n : ℕ) → s < most → (n ≡ 0 → ⊥) → oldest (events_from l s 0 n) ≡ some (event_in (get_or l s 0))
+pub oldest-there : (l : List ℕ) (s n : ℕ) → s < most → (n ≡ 0 → ⊥) → oldest (events_from l s 0 n) ≡ Some (event_in (get_or l s 0))
 oldest-there l s n b h =
     let e : n ≡ suc (n - 1) = omega (arith, h) in
-    ap (λ (k : ℕ). oldest (events_from l s 0 k)) e ∙ ap (λ (j : ℕ). some (event_in (get_or l j 0))) (begins s b)
+    ap (λ (k : ℕ). oldest (events_from l s 0 k)) e ∙ ap (λ (j : ℕ). Some (event_in (get_or l j 0))) (begins s b)
 
 -- only the places that are read count
 same : (l m : List ℕ) (s i n : ℕ) → ((j : ℕ) → i ≤ j → j < i + n → number_at l s j ≡ number_at m s j) → events_from l s i n ≡ events_from m s i n
@@ -332,7 +331,7 @@ module _ (q : Event → Bool) (l : List ℕ) (s n k : ℕ) (pos : 0 < k) (few : 
       let d : n - (k - 1) ≡ suc (n - k) = omega arith in
       rw d (ap (events_from l s (n - k)) a)
 
-  pub find-here : q (event_in (number_at l s (n - k))) ≡ true → find q (events_from l s (n - k) k) ≡ At (k - 1)
+  pub find-here : q (event_in (number_at l s (n - k))) ≡ true → find q (events_from l s (n - k) k) ≡ Some (k - 1)
   find-here t = ap (find q) next_one ∙ rw (t, len l s (n - (k - 1)) (k - 1))
 
   pub find_past : q (event_in (number_at l s (n - k))) ≡ false → find q (events_from l s (n - k) k) ≡ find q (events_from l s (n - (k - 1)) (k - 1))
@@ -340,24 +339,24 @@ module _ (q : Event → Bool) (l : List ℕ) (s n k : ℕ) (pos : 0 < k) (few : 
 
 -- ---- from the number that a walk found to the event
 
-met-from : (q : Event → Bool) (l : List ℕ) (s i n k : ℕ) → find q (events_from l s i n) ≡ At k
-    → first q (events_from l s i n) ≡ some (event_in (number_at l s (i + (n - 1 - k))))
+met-from : (q : Event → Bool) (l : List ℕ) (s i n k : ℕ) → find q (events_from l s i n) ≡ Some k
+    → first q (events_from l s i n) ≡ Some (event_in (number_at l s (i + (n - 1 - k))))
 met-from q l s i zero k e = differ (cc)
 met-from q l s i (suc n) k e =
     split (q (event_in (number_at l s i)))
-    (λ p. let f : At (length (events_from l s (suc i) n)) ≡ At k = rw p at e in
+    (λ p. let f : Some (length (events_from l s (suc i) n)) ≡ Some k = rw p at e in
     let z : length (events_from l s (suc i) n) ≡ k = cc in
     let y : i + (suc n - 1 - k) ≡ i = omega (arith, len l s (suc i) n) in
     rw (p, y))
-    (λ p. let f : find q (events_from l s (suc i) n) ≡ At k = rw p at e in
+    (λ p. let f : find q (events_from l s (suc i) n) ≡ Some k = rw p at e in
     let y : suc i + (n - 1 - k) ≡ i + (suc n - 1 - k) = omega (arith, find-inside q (events_from l s (suc i) n) k f, len l s (suc i) n) in
-    rw p (met-from q l s (suc i) n k f ∙ ap (λ (j : ℕ). some (event_in (number_at l s j))) y))
+    rw p (met-from q l s (suc i) n k f ∙ ap (λ (j : ℕ). Some (event_in (number_at l s j))) y))
 
-module _ (q : Event → Bool) (r : Queue) (k : ℕ) (e : find q (events_of r) ≡ At k) where
+module _ (q : Event → Bool) (r : Queue) (k : ℕ) (e : find q (events_of r) ≡ Some k) where
   pub met-inside : k < r.count
   met-inside = omega (arith, find-inside q (events_of r) k e, len r.places r.start 0 r.count)
 
-  pub met-there : first q (events_of r) ≡ some (event_in (number_at r.places r.start (r.count - 1 - k)))
+  pub met-there : first q (events_of r) ≡ Some (event_in (number_at r.places r.start (r.count - 1 - k)))
   met-there =
       let z : 0 + (r.count - 1 - k) ≡ r.count - 1 - k = omega arith in
-      met-from q r.places r.start 0 r.count k e ∙ ap (λ (j : ℕ). some (event_in (number_at r.places r.start j))) z
+      met-from q r.places r.start 0 r.count k e ∙ ap (λ (j : ℕ). Some (event_in (number_at r.places r.start j))) z

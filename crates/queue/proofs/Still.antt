@@ -1,15 +1,14 @@
 -- What moves in the array. Where the oldest event is taken, or one is added, a single number changes; where another event is taken, the older ones stay.
 use Prim.Native.Nat.{ℕ, suc, ◌+◌, ◌-◌, ◌<◌}
+use Rattle.std.specs.Prelude.{Some}
 use mathlib.Core.Path.{◌≡◌, sym, ap, ◌∙◌}
 use mathlib.Core.List.{List, [], ◌∷◌, ◌++◌}
-use mathlib.Core.Option.{some}
 use native.Mathlib.Omega.{arith}
 use lib.Dec.{ltb}
 use lib.ListN.{length, get_or, set, length-append, get_or-append}
 use lib.Seq.{get_or-set_same, get_or-set_other, get_or-append-add}
 use borrow.Author.Tests.{ltb-true, ltb-false}
 use Rattle.lists.specs.Lists.{without, find, without_at}
-use Rattle.lists.specs.declared.Found.TheVariants.{At}
 use Rattle.lists.proofs.Tests.{split}
 use Rattle.lists.proofs.Numbers.{end-found}
 use Rattle.queue.specs.declared.Event.{Event}
@@ -22,7 +21,7 @@ use Rattle.queue.proofs.Once.{one_number, event-at, stands_at, one-queue}
 
 -- ---- the oldest is taken
 
-module _ (q r : Queue) (w : Lawful q) (e : Event) (o : oldest (events_of q) ≡ some e)
+module _ (q r : Queue) (w : Lawful q) (e : Event) (o : oldest (events_of q) ≡ Some e)
     (k : HoldsAt r (without (meets (like_of e)) (events_of q)) (start_without e (events_of q) (start_of q))) where
   one-freed : r ≡ record { places = set q.places q.start 0; start = place_from q.start 1; count = q.count - 1 }
   one-freed =
@@ -80,7 +79,7 @@ module _ (q r : Queue) (w : Lawful q) (e : Event) (k : HoldsAt r (added e (event
 abbrev pub older_than : Queue → ℕ → ℕ
 older_than q n = q.count - 1 - n
 
-module _ (q r : Queue) (w : Lawful q) (e : Event) (n : ℕ) (f : find (meets (like_of e)) (events_of q) ≡ At n)
+module _ (q r : Queue) (w : Lawful q) (e : Event) (n : ℕ) (f : find (meets (like_of e)) (events_of q) ≡ Some n)
     (k : HoldsAt r (without (meets (like_of e)) (events_of q)) (start_without e (events_of q) (start_of q))) where
   parted : events_of r ≡ events_from q.places q.start 0 (older_than q n) ++ events_from q.places q.start (suc (0 + older_than q n)) n
   parted =

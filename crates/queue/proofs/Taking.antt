@@ -1,15 +1,14 @@
 -- A taken event is the one that was found; and where the ring begins without it.
 use Prim.Native.Nat.{ℕ, suc, ◌-◌, ◌<◌}
+use Rattle.std.specs.Prelude.{Some}
 use mathlib.Core.Path.{◌≡◌, refl, ap, ◌∙◌}
 use mathlib.Core.Bool.{Bool, true, false, cond}
 use mathlib.Core.List.{List, [], ◌∷◌}
-use mathlib.Core.Option.{some}
 use native.Mathlib.Omega.{arith}
 use lib.Dec.{eqb}
 use borrow.Author.Tests.{eq-eqb, eqb-true}
 use lib.ListN.{length}
 use Rattle.lists.specs.Lists.{first, without, find, without_at}
-use Rattle.lists.specs.declared.Found.TheVariants.{At}
 use Rattle.lists.proofs.Tests.{split, differ, and_yes}
 use Rattle.lists.proofs.First.{first-yes}
 use Rattle.queue.specs.declared.Event.{Event}
@@ -44,12 +43,12 @@ meets-known s e t =
 
 module _ (q : Event → Bool) (e : Event) where
   -- taking the oldest of its like takes the oldest that met the search
-  pub takes-found : (es : List Event) → first q es ≡ some e → without (meets (like_of e)) es ≡ without q es
+  pub takes-found : (es : List Event) → first q es ≡ Some e → without (meets (like_of e)) es ≡ without q es
   takes-found [] f = refl
   takes-found (x ∷ es) f = go (q x) refl (takes-found es) f
     where
-      go : (b : Bool) → q x ≡ b → (first q es ≡ some e → without (meets (like_of e)) es ≡ without q es)
-          → cond b (some x) (first q es) ≡ some e → without (meets (like_of e)) (x ∷ es) ≡ without q (x ∷ es)
+      go : (b : Bool) → q x ≡ b → (first q es ≡ Some e → without (meets (like_of e)) es ≡ without q es)
+          → cond b (Some x) (first q es) ≡ Some e → without (meets (like_of e)) (x ∷ es) ≡ without q (x ∷ es)
       go true t ih g =
           let z : x ≡ e = cc in
           let u : meets (like_of e) x ≡ true = ap (meets (like_of e)) z ∙ like-itself e in
@@ -97,11 +96,11 @@ module _ (e x : Event) (s : ℕ) where
       rw (z, t)
 
 -- an event that has an older one is not the oldest
-pub stays-behind : (e : Event) (s : ℕ) (es : List Event) (k : ℕ) → find (meets (like_of e)) es ≡ At k → suc k < length es → start_without e es s ≡ s
+pub stays-behind : (e : Event) (s : ℕ) (es : List Event) (k : ℕ) → find (meets (like_of e)) es ≡ Some k → suc k < length es → start_without e es s ≡ s
 stays-behind e s [] k f h = refl
 stays-behind e s (x ∷ es) k f h =
     split (meets (like_of e) x)
-    (λ p. let g : At (length es) ≡ At k = rw p at f in
+    (λ p. let g : Some (length es) ≡ Some k = rw p at f in
     let z : length es ≡ k = cc in
     absurd (omega arith))
     (λ p. rw p)

@@ -1,6 +1,5 @@
 -- The event queue (section 13): the events that it holds, and what is asked of them. They stand oldest first.
-use Rattle.std.specs.Prelude.{ℕ, Bool, false, ◌&&◌, cond, List, [], ◌∷◌, ◌++◌, eqb, ltb, leb, length}
-use Rattle.std.proofs.Math.Option.{Option, none, some}
+use Rattle.std.specs.Prelude.{ℕ, Bool, false, ◌&&◌, cond, List, [], ◌∷◌, ◌++◌, eqb, ltb, leb, length, Option, Some, None}
 use Rattle.lists.specs.Lists.{checks}
 use Rattle.queue.specs.declared.Event.{Event}
 use Rattle.queue.specs.declared.Search.{Search}
@@ -13,8 +12,8 @@ most = 100
 
 -- 'oldest first'
 abbrev pub oldest : List Event → Option Event
-oldest [] = none
-oldest (e ∷ es) = some e
+oldest [] = None
+oldest (e ∷ es) = Some e
 
 -- 'Add to a full queue drops the newcomer (house).'
 abbrev pub added : Event → List Event → List Event
@@ -50,5 +49,5 @@ like_of e = record { by = by_both; wanted = e }
 
 -- an answer to what was asked for
 abbrev pub sought : Option Event → Sought
-sought none = Nothing
-sought (some e) = One e
+sought None = Nothing
+sought (Some e) = One e

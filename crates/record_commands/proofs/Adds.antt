@@ -1,8 +1,8 @@
 -- Add does to the store what it does to a plain list of files, and keeps the law. There is room exactly while fewer than 256 records are held.
 use Prim.Native.Nat.{◌+◌, ◌-◌, ◌<◌, suc, zero, ℕ, ◌≤◌}
+use Rattle.std.specs.Prelude.{Option, Some}
 use mathlib.Core.Bool.{cond, false, true}
 use mathlib.Core.List.{◌++◌, List, [], append-nil, map, ◌∷◌}
-use mathlib.Core.Option.{Option, some}
 use mathlib.Core.Path.{ap, refl, sym, ◌∙◌, ◌≡◌}
 use native.Mathlib.Omega.{arith}
 use lib.Dec.{eqb, ltb}
@@ -185,5 +185,5 @@ module _ (b : Book) (area : List ℕ) (law : Lawful b area) (f : ℕ) (key d : L
         };
   }
     where
-      some_is : {x y : File} → some x ≡ some y → x ≡ y
+      some_is : {x y : File} → Some x ≡ Some y → x ≡ y
       some_is e = cc

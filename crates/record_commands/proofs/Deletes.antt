@@ -1,5 +1,6 @@
 -- Delete, and Find and Delete, do to the store what they do to a plain list of files, and keep the law.
 use Prim.Native.Nat.{ℕ, ◌≤◌}
+use Rattle.std.specs.Prelude.{Option, Some, None}
 use mathlib.Core.Bool.{Bool, cond, false, true}
 use mathlib.Core.List.{List, map}
 use mathlib.Core.Path.{ap, refl, ◌∙◌, ◌≡◌}
@@ -18,8 +19,6 @@ use Rattle.lists.proofs.ByPlace.{Hit, all-cut, count_cut, hit, length_cut}
 use Rattle.lists.proofs.Tests.{split}
 use Rattle.lists.specs.ByPlace.{cut, place}
 use Rattle.lists.specs.Lists.{without}
-use Rattle.lists.specs.declared.Found.{Found}
-use Rattle.lists.specs.declared.Found.TheVariants.{At, Nothing}
 use Rattle.record_commands.proofs.Steps.{fits-there, slot-alone}
 use Rattle.record_commands.specs.Records.{delete_area, delete_of, erased_area, erased_book, find_delete_area, find_delete_of}
 use Rattle.slots.proofs.Slots.{blank-long, put-long}
@@ -27,7 +26,7 @@ use Rattle.slots.specs.Slots.{blank}
 use Rattle.tapa.specs.Codes.{file_seek_error, invalid_record_pointer, search_key_too_large, successful}
 
 -- ---- a removal: the oldest record of a file that meets a test
-module _ (b : Book) (area : List ℕ) (law : Lawful b area) (f : ℕ) (q' : Record → Bool) (i : ℕ) (e : place (both f (rec_of area) q') 0 (entries_of b) ≡ At i) where
+module _ (b : Book) (area : List ℕ) (law : Lawful b area) (f : ℕ) (q' : Record → Bool) (i : ℕ) (e : place (both f (rec_of area) q') 0 (entries_of b) ≡ Some i) where
   abbrev s : ℕ
   s = (get_or (entries_of b) i no_entry).slot
 
@@ -71,11 +70,11 @@ module _ (b : Book) (area : List ℕ) (law : Lawful b area) (f p : ℕ) where
       split (kind_of b.kinds f).made (λ t. go (place (meant f p) 0 (entries_of b)) refl t)
       (λ t. let n = look_none (entries_of b) area f b.kinds t in record { code = rw (n, t); view = rw (n, t); lawful = rw t law })
     where
-      go : (z : Found) → place (meant f p) 0 (entries_of b) ≡ z → (kind_of b.kinds f).made ≡ true → DeleteRight
-      go Nothing e t =
+      go : (z : Option ℕ) → place (meant f p) 0 (entries_of b) ≡ z → (kind_of b.kinds f).made ≡ true → DeleteRight
+      go None e t =
           let c : delete_code (view_of b area) f p ≡ invalid_record_pointer = rw (look-made (entries_of b) area f b.kinds t, some-place f (rec_of area) (sought p) 0 (entries_of b), e) in
           record { code = rw (c, t, e); view = rw (c, t, e); lawful = rw (t, e) law }
-      go (At i) e t =
+      go (Some i) e t =
           let c : delete_code (view_of b area) f p ≡ successful = rw (look-made (entries_of b) area f b.kinds t, some-place f (rec_of area) (sought p) 0 (entries_of b), e) in
           record { code = rw (c, t, e); view = rw (c, t, e) (erased-view b area law f (sought p) i e); lawful = rw (t, e) (erased-law b area law f (sought p) i e) }
 
@@ -96,10 +95,10 @@ module _ (b : Book) (area : List ℕ) (law : Lawful b area) (f : ℕ) (key : Lis
       (λ u. go (place (key_at area f key) 0 (entries_of b)) refl t u))
       (λ t. let n = look_none (entries_of b) area f b.kinds t in record { code = rw (n, t); view = rw (n, t); lawful = rw t law })
     where
-      go : (z : Found) → place (key_at area f key) 0 (entries_of b) ≡ z → (kind_of b.kinds f).made ≡ true → ltb (kind_of b.kinds f).keymax (length key) ≡ false → FindDeleteRight
-      go Nothing e t u =
+      go : (z : Option ℕ) → place (key_at area f key) 0 (entries_of b) ≡ z → (kind_of b.kinds f).made ≡ true → ltb (kind_of b.kinds f).keymax (length key) ≡ false → FindDeleteRight
+      go None e t u =
           let c : find_delete_code (view_of b area) f key ≡ file_seek_error = rw (look-made (entries_of b) area f b.kinds t, u, some-place f (rec_of area) (keyed key) 0 (entries_of b), e) in
           record { code = rw (c, t, u, e); view = rw (c, t, u, e); lawful = rw (t, u, e) law }
-      go (At i) e t u =
+      go (Some i) e t u =
           let c : find_delete_code (view_of b area) f key ≡ successful = rw (look-made (entries_of b) area f b.kinds t, u, some-place f (rec_of area) (keyed key) 0 (entries_of b), e) in
           record { code = rw (c, t, u, e); view = rw (c, t, u, e) (erased-view b area law f (keyed key) i e); lawful = rw (t, u, e) (erased-law b area law f (keyed key) i e) }

@@ -1,5 +1,6 @@
 -- Nothing of a deleted record stays in the area, and nothing of what an updated record held before.
 use Prim.Native.Nat.{ℕ, ◌≤◌}
+use Rattle.std.specs.Prelude.{Option, Some, None}
 use mathlib.Core.Bool.{Bool, false, true}
 use mathlib.Core.List.{List}
 use mathlib.Core.Path.{ap, refl, subst, sym, ◌∙◌, ◌≡◌}
@@ -13,8 +14,6 @@ use Rattle.book.specs.declared.Entry.{Entry}
 use Rattle.lists.proofs.ByPlace.{hit}
 use Rattle.lists.proofs.Tests.{split}
 use Rattle.lists.specs.ByPlace.{place}
-use Rattle.lists.specs.declared.Found.{Found}
-use Rattle.lists.specs.declared.Found.TheVariants.{At, Nothing}
 use Rattle.record_commands.proofs.Steps.{find-found, fits-there, lengths, update-fit}
 use Rattle.record_commands.specs.Leaks.{DeleteLeaves, FindDeleteLeaves, OneSlot, UpdateLeaves, slot_at}
 use Rattle.record_commands.specs.Records.{delete_area, erased_area, find_delete_area, update_area, update_seen}
@@ -24,7 +23,7 @@ use Rattle.slots.specs.Slots.{blank, put, slot_of}
 use Rattle.tapa.specs.Codes.{invalid_file_id, invalid_record_pointer, successful}
 
 module _ (b : Book) (area : List ℕ) (law : Lawful b area) where
-  put_one : (q : Entry → Bool) (i : ℕ) (xs : List ℕ) → length xs ≡ 383 → place q 0 (entries_of b) ≡ At i
+  put_one : (q : Entry → Bool) (i : ℕ) (xs : List ℕ) → length xs ≡ 383 → place q 0 (entries_of b) ≡ Some i
       → OneSlot area (put area (get_or (entries_of b) i no_entry).slot xs) (slot_at (entries_of b) (place q 0 (entries_of b))) xs
   put_one q i xs full e =
       let s = (get_or (entries_of b) i no_entry).slot in
@@ -38,11 +37,11 @@ module _ (b : Book) (area : List ℕ) (law : Lawful b area) where
   pub delete-leaves : (f p : ℕ) → DeleteLeaves b area f p
   delete-leaves f p c = go (kind_of b.kinds f).made refl (place (meant f p) 0 (entries_of b)) refl
     where
-      go : (m : Bool) → (kind_of b.kinds f).made ≡ m → (z : Found) → place (meant f p) 0 (entries_of b) ≡ z
+      go : (m : Bool) → (kind_of b.kinds f).made ≡ m → (z : Option ℕ) → place (meant f p) 0 (entries_of b) ≡ z
           → OneSlot area (delete_area b area f p) (slot_at (entries_of b) (place (meant f p) 0 (entries_of b))) blank
       go false t z e = let w : ◌≡◌ {A = ℕ} invalid_file_id successful = rw t at c in absurd (omega arith)
-      go true t Nothing e = let w : ◌≡◌ {A = ℕ} invalid_record_pointer successful = rw (t, e) at c in absurd (omega arith)
-      go true t (At i) e =
+      go true t None e = let w : ◌≡◌ {A = ℕ} invalid_record_pointer successful = rw (t, e) at c in absurd (omega arith)
+      go true t (Some i) e =
           let a : delete_area b area f p ≡ erased_area b area i = rw (t, e) in
           subst (λ (r : List ℕ). OneSlot area r (slot_at (entries_of b) (place (meant f p) 0 (entries_of b))) blank) (sym a) (put_one (meant f p) i blank blank-long e)
 

@@ -1,5 +1,6 @@
 -- What the returns of the commands need, over plain values.
 use Prim.Native.Nat.{◌%◌, ◌+◌, ◌-◌, ◌<◌, ℕ, ◌≤◌}
+use Rattle.std.specs.Prelude.{Option, Some, None}
 use mathlib.Core.Bool.{Bool, cond, false, not, true}
 use mathlib.Core.List.{◌++◌, List, [], ◌∷◌}
 use mathlib.Core.Logic.{◌⊎◌, ⊎_elim}
@@ -19,8 +20,6 @@ use Rattle.lists.proofs.ByPlace.{all-at, count_cut, hit}
 use Rattle.lists.proofs.Tests.{checks-are, split}
 use Rattle.lists.specs.ByPlace.{cut, is_at, place}
 use Rattle.lists.specs.Lists.{count}
-use Rattle.lists.specs.declared.Found.{Found}
-use Rattle.lists.specs.declared.Found.TheVariants.{At, Nothing}
 use Rattle.record_commands.specs.Records.{add_area, add_of, asked_code, wiped_by, code_of_add, delete_area, delete_of, deleted_by, erased_area, erased_book, find_delete_area, find_delete_of, new_entry, resized, rewritten_by, twin_at, update_area, update_at, update_of, update_seen, updated_by}
 use Rattle.record_commands.specs.declared.Added.{Added}
 use Rattle.record_commands.specs.declared.Deleted.{Deleted}
@@ -64,7 +63,7 @@ code-good n m e h = eq-eqb m successful (sym e ∙ h)
 
 -- ---- Delete
 module _ (b : Book) (area : List ℕ) (f p : ℕ) where
-  pub delete-hit : (i : ℕ) (next : Book) (area' : List ℕ) → (kind_of b.kinds f).made ≡ true → place (meant f p) 0 (entries_of b) ≡ At i
+  pub delete-hit : (i : ℕ) (next : Book) (area' : List ℕ) → (kind_of b.kinds f).made ≡ true → place (meant f p) 0 (entries_of b) ≡ Some i
       → next ≡ erased_book b i → area' ≡ erased_area b area i
       → (◌≡◌ {A = Deleted} (record { code = successful; next = next }) (delete_of b f p)) × (area' ≡ delete_area b area f p)
   delete-hit i next area' e g m n = rw (e, g) (ap (λ (v : Book). record { code = successful; next = v }) m, n)
@@ -73,9 +72,9 @@ module _ (b : Book) (area : List ℕ) (f p : ℕ) where
 
 module _ (b : Book) (area : List ℕ) (f : ℕ) (key : List ℕ) where
   -- where Find's code is '0000', its search ended at the record
-  pub find-found : (g : Got) → g ≡ find_of b area f key → g.code ≡ successful → place (key_at area f key) 0 (entries_of b) ≡ At g.at
+  pub find-found : (g : Got) → g ≡ find_of b area f key → g.code ≡ successful → place (key_at area f key) 0 (entries_of b) ≡ Some g.at
   find-found g e c =
-      checks-are (λ (v : Got). g ≡ v → place (key_at area f key) 0 (entries_of b) ≡ At g.at)
+      checks-are (λ (v : Got). g ≡ v → place (key_at area f key) 0 (entries_of b) ≡ Some g.at)
       ((not (kind_of b.kinds f).made, none_got invalid_file_id) ∷ (ltb (kind_of b.kinds f).keymax (length key), none_got search_key_too_large) ∷ [])
       (found_at (entries_of b) (place (key_at area f key) 0 (entries_of b)))
       (wrong invalid_file_id (omega arith), (wrong search_key_too_large (omega arith), tt))
@@ -85,9 +84,9 @@ module _ (b : Book) (area : List ℕ) (f : ℕ) (key : List ℕ) where
       wrong : {P : Type 0} (n : ℕ) → 0 < n → g ≡ none_got n → P
       wrong n h x = let z : n ≡ 0 = sym (ap (λ (v : Got). v.code) x) ∙ c in absurd (omega arith)
 
-      go : (z : Found) → g ≡ found_at (entries_of b) z → z ≡ At g.at
-      go Nothing x = wrong file_seek_error (omega arith) x
-      go (At i) x = ap (λ (v : Got). At v.at) (sym x)
+      go : (z : Option ℕ) → g ≡ found_at (entries_of b) z → z ≡ Some g.at
+      go None x = wrong file_seek_error (omega arith) x
+      go (Some i) x = ap (λ (v : Got). Some v.at) (sym x)
 
   module _ (g : Got) (e : g ≡ find_of b area f key) where
     pub find-delete-none : (g.code ≡ successful → ⊥)
@@ -184,7 +183,7 @@ module _ (b : Book) (area : List ℕ) (f : ℕ) (key d : List ℕ) where
 -- what is known where the code is '0000'
 pub record UpdateFit (b : Book) (f p : ℕ) (key d : List ℕ) (g : Got) : Type 0 where
   pub fit : Asked (kind_of b.kinds f) key d
-  pub found : place (meant f p) 0 (entries_of b) ≡ At g.at
+  pub found : place (meant f p) 0 (entries_of b) ≡ Some g.at
   pub own : g.other ≡ (get_or (entries_of b) g.at no_entry).pointer
 
 module _ (b : Book) (area : List ℕ) (f p : ℕ) (key d : List ℕ) (g : Got) where
@@ -198,15 +197,15 @@ module _ (b : Book) (area : List ℕ) (f p : ℕ) (key d : List ℕ) (g : Got) w
       wrong : (n : ℕ) → 0 < n → g ≡ none_got n → UpdateFit b f p key d g
       wrong n h x = let z : n ≡ 0 = sym (ap (λ (v : Got). v.code) x) ∙ c in absurd (omega arith)
 
-      go : Asked (kind_of b.kinds f) key d → (z : Found) → place (meant f p) 0 (entries_of b) ≡ z → g ≡ update_at b area f key (place (meant f p) 0 (entries_of b)) → UpdateFit b f p key d g
-      go a Nothing y x = wrong invalid_record_pointer (omega arith) (rw y at x)
-      go a (At i) y x =
+      go : Asked (kind_of b.kinds f) key d → (z : Option ℕ) → place (meant f p) 0 (entries_of b) ≡ z → g ≡ update_at b area f key (place (meant f p) 0 (entries_of b)) → UpdateFit b f p key d g
+      go a None y x = wrong invalid_record_pointer (omega arith) (rw y at x)
+      go a (Some i) y x =
           split (twin_at b area f key (kind_of b.kinds f).keymax i)
           (λ t. wrong search_key_existing (omega arith) (rw (y, t) at x))
           (λ t.
           let w : g ≡ record { code = successful; at = i; other = (get_or (entries_of b) i no_entry).pointer } = rw (y, t) at x in
           let m : g.at ≡ i = ap (λ (v : Got). v.at) w in
-          record { fit = a; found = y ∙ ap At (sym m); own = ap (λ (v : Got). v.other) w ∙ ap (λ (j : ℕ). (get_or (entries_of b) j no_entry).pointer) (sym m) })
+          record { fit = a; found = y ∙ ap Some (sym m); own = ap (λ (v : Got). v.other) w ∙ ap (λ (j : ℕ). (get_or (entries_of b) j no_entry).pointer) (sym m) })
 
   module _ (e : g ≡ update_seen b area f p key d) where
     pub update-refused : (g.code ≡ successful → ⊥)

@@ -1,5 +1,6 @@
 -- Update does to the store what it does to a plain list of files, and keeps the law.
 use Prim.Native.Nat.{◌+◌, ◌-◌, suc, zero, ℕ}
+use Rattle.std.specs.Prelude.{Option, Some, None}
 use mathlib.Core.Bool.{Bool, cond, false, not, true}
 use mathlib.Core.List.{List, [], map, ◌∷◌}
 use mathlib.Core.Path.{ap, refl, sym, ◌∙◌, ◌≡◌}
@@ -19,8 +20,6 @@ use Rattle.lists.proofs.ByPlace.{Hit, all_set, count_cut, count_set, hit, place_
 use Rattle.lists.proofs.Tests.{clash, differ, split}
 use Rattle.lists.specs.ByPlace.{cut, is_at, place}
 use Rattle.lists.specs.Lists.{All, changed, checks, count, keep, some_of, without}
-use Rattle.lists.specs.declared.Found.{Found}
-use Rattle.lists.specs.declared.Found.TheVariants.{At, Nothing}
 use Rattle.record_commands.proofs.Steps.{UpdateFit, fits-there, lengths, new-record, slot-alone, update-fit}
 use Rattle.record_commands.specs.Records.{resized, update_area, update_at, update_of, update_seen}
 use Rattle.sights.specs.declared.Got.{Got}
@@ -34,7 +33,7 @@ module _ (f : ℕ) (q' : Record → Bool) (R R' : Entry → Record) (y : Entry) 
   unchanged q [] a = refl
   unchanged q (x ∷ l) a = split (q x) (λ t. rw t (λ i. a.0 i ∷ unchanged q l a.1 i)) (λ t. rw t (unchanged q l a.1))
 
-  swap-from : (n k : ℕ) (l : List Entry) → place (both f R q') n l ≡ At (n + k) → R' y ≡ h (R (get_or l k no_entry)) → All (λ (x : Entry). R' x ≡ R x) (cut l k)
+  swap-from : (n k : ℕ) (l : List Entry) → place (both f R q') n l ≡ Some (n + k) → R' y ≡ h (R (get_or l k no_entry)) → All (λ (x : Entry). R' x ≡ R x) (cut l k)
       → (map R' (keep (in_file f) (set l k y)) ≡ changed h q' (map R (keep (in_file f) l)))
       × ((m : ℕ) → eqb m f ≡ false → map R' (keep (in_file m) (set l k y)) ≡ map R (keep (in_file m) l))
   swap-from n k [] e r a = differ (cc)
@@ -53,10 +52,10 @@ module _ (f : ℕ) (q' : Record → Bool) (R R' : Entry → Record) (y : Entry) 
   swap-from n (suc k) (x ∷ l) e r a =
       let w : n + suc k ≡ suc n + k = omega arith in
       split (both f R q' x)
-      (λ t. let g : At n ≡ At (n + suc k) = rw t at e in let v : n ≡ n + suc k = cc in absurd (omega arith))
+      (λ t. let g : Some n ≡ Some (n + suc k) = rw t at e in let v : n ≡ n + suc k = cc in absurd (omega arith))
       (λ t.
-      let g : place (both f R q') (suc n) l ≡ At (n + suc k) = rw t at e in
-      let ih = swap-from (suc n) k l (g ∙ ap At w) r a.1 in (
+      let g : place (both f R q') (suc n) l ≡ Some (n + suc k) = rw t at e in
+      let ih = swap-from (suc n) k l (g ∙ ap Some w) r a.1 in (
         split (in_file f x)
             (λ u. let v : q' (R x) ≡ false = rw u at t in rw (u, v) (λ i. a.0 i ∷ ih.0 i))
             (λ u. rw u ih.0),
@@ -66,7 +65,7 @@ module _ (f : ℕ) (q' : Record → Bool) (R R' : Entry → Record) (y : Entry) 
 -- ---- Update
 module _ (b : Book) (area : List ℕ) (law : Lawful b area) (f p : ℕ) (key d : List ℕ) where
   -- without the record at its place, a search by key is a search in the file without the record
-  twin-is : (i : ℕ) → place (meant f p) 0 (entries_of b) ≡ At i
+  twin-is : (i : ℕ) → place (meant f p) 0 (entries_of b) ≡ Some i
       → is_at (place (key_at area f key) 0 (cut (entries_of b) i)) ≡ some_of (keyed key) (without (sought p) (records_of area f (entries_of b)))
   twin-is i e =
       sym (some-place f (rec_of area) (keyed key) 0 (cut (entries_of b) i))
@@ -82,15 +81,15 @@ module _ (b : Book) (area : List ℕ) (law : Lawful b area) (f p : ℕ) (key d :
       (λ u. split (ltb k.keymax (length key)) (λ v. rw (t, u, v)) (λ v. rw (t, u, v) (go (place (meant f p) 0 (entries_of b)) refl)))))
       (λ t. rw (look_none (entries_of b) area f b.kinds t, t))
     where
-      go : (z : Found) → place (meant f p) 0 (entries_of b) ≡ z
+      go : (z : Option ℕ) → place (meant f p) 0 (entries_of b) ≡ z
           → (update_at b area f key (place (meant f p) 0 (entries_of b))).code
           ≡ checks
           ((not (some_of (sought p) (records_of area f (entries_of b))), invalid_record_pointer)
           ∷ (cond (ltb 0 (kind_of b.kinds f).keymax) (some_of (keyed key) (without (sought p) (records_of area f (entries_of b)))) false, search_key_existing)
           ∷ [])
           successful
-      go Nothing e = rw (some-place f (rec_of area) (sought p) 0 (entries_of b), e)
-      go (At i) e =
+      go None e = rw (some-place f (rec_of area) (sought p) 0 (entries_of b), e)
+      go (Some i) e =
           let t = cond (ltb 0 (kind_of b.kinds f).keymax) (some_of (keyed key) (without (sought p) (records_of area f (entries_of b)))) false in
           let s : some_of (sought p) (records_of area f (entries_of b)) ≡ true = some-place f (rec_of area) (sought p) 0 (entries_of b) ∙ ap is_at e in
           rw (e, s, twin-is i e) (split t (λ u. rw u) (λ u. rw u))
@@ -138,7 +137,7 @@ module _ (b : Book) (area : List ℕ) (law : Lawful b area) (f p : ℕ) (key d :
     recs : (m : ℕ) → records_of area' m (set l i y) ≡ cond (eqb m f) (changed (renewed key d) (sought p) (records_of area m l)) (records_of area m l)
     recs m =
         let z =
-        swap-from f (sought p) (rec_of area) (rec_of area') y (renewed key d) own-file 0 i l (fit.found ∙ ap At (let n : i ≡ 0 + i = omega arith in n))
+        swap-from f (sought p) (rec_of area) (rec_of area') y (renewed key d) own-file 0 i l (fit.found ∙ ap Some (let n : i ≡ 0 + i = omega arith in n))
         (new-record area key d x.slot law.roomy full fits.slot x.file x.pointer) (kept (cut l i) (slot-alone b area law i there.inside)) in
         split (eqb m f) (λ u. let w : m ≡ f = eqb-true m f u in rw u (rw w z.0)) (λ u. rw u (z.1 m u))
 

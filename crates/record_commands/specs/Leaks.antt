@@ -1,19 +1,17 @@
 -- What of a record stays in the area: nothing.
-use Rattle.std.specs.Prelude.{ℕ, List, ◌≡◌, get_or}
+use Rattle.std.specs.Prelude.{ℕ, List, ◌≡◌, get_or, Option, Some, None}
 use Rattle.book.specs.Book.{entries_of, key_at, meant, no_entry}
 use Rattle.book.specs.declared.Book.{Book}
 use Rattle.book.specs.declared.Entry.{Entry}
 use Rattle.lists.specs.ByPlace.{place}
-use Rattle.lists.specs.declared.Found.{Found}
-use Rattle.lists.specs.declared.Found.TheVariants.{At, Nothing}
 use Rattle.record_commands.specs.Records.{delete_area, delete_of, find_delete_area, find_delete_of, update_area, update_of}
 use Rattle.slots.specs.Slots.{blank, slot_of, window}
 use Rattle.tapa.specs.Codes.{successful}
 
 -- the slot of the record that a search ended at
-abbrev pub slot_at : List Entry → Found → ℕ
-slot_at l Nothing = 0
-slot_at l (At i) = (get_or l i no_entry).slot
+abbrev pub slot_at : List Entry → Option ℕ → ℕ
+slot_at l None = 0
+slot_at l (Some i) = (get_or l i no_entry).slot
 
 -- one slot holds other bytes, all of them given; every other slot is as it was
 pub record OneSlot (area area' : List ℕ) (s : ℕ) (xs : List ℕ) : Type 0 where

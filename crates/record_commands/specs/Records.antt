@@ -1,5 +1,5 @@
 -- What each command that changes records does to the book and to the area: one result, one content of lent memory.
-use Rattle.std.specs.Prelude.{ℕ, Bool, cond, false, not, true, ◌++◌, List, [], ◌∷◌, eqb, leb, ltb, get_or, length, set}
+use Rattle.std.specs.Prelude.{ℕ, Bool, cond, false, not, true, ◌++◌, List, [], ◌∷◌, eqb, leb, ltb, get_or, length, set, Option, Some, None}
 use Rattle.book.specs.Book.{book_of, entries_of, key_at, kind_of, meant, no_entry, pointers_of, slots_of}
 use Rattle.book.specs.declared.Book.{Book}
 use Rattle.book.specs.declared.Entry.{Entry}
@@ -7,8 +7,6 @@ use Rattle.book.specs.declared.Kind.{Kind}
 use Rattle.lists.specs.ByPlace.{cut, is_at, place}
 use Rattle.lists.specs.Least.{least}
 use Rattle.lists.specs.Lists.{checks}
-use Rattle.lists.specs.declared.Found.{Found}
-use Rattle.lists.specs.declared.Found.TheVariants.{At, Nothing}
 use Rattle.record_commands.specs.declared.Added.{Added}
 use Rattle.record_commands.specs.declared.Deleted.{Deleted}
 use Rattle.sights.specs.Sights.{find_of, none_got}
@@ -26,15 +24,15 @@ erased_area b area i = put area (get_or (entries_of b) i no_entry).slot blank
 
 -- ---- Delete
 
-abbrev pub deleted_at : Book → Bool → Found → Deleted
+abbrev pub deleted_at : Book → Bool → Option ℕ → Deleted
 deleted_at b false z = record { code = invalid_file_id; next = b }
-deleted_at b true Nothing = record { code = invalid_record_pointer; next = b }
-deleted_at b true (At i) = record { code = successful; next = erased_book b i }
+deleted_at b true None = record { code = invalid_record_pointer; next = b }
+deleted_at b true (Some i) = record { code = successful; next = erased_book b i }
 
-abbrev pub wiped_at : Book → List ℕ → Bool → Found → List ℕ
+abbrev pub wiped_at : Book → List ℕ → Bool → Option ℕ → List ℕ
 wiped_at b area false z = area
-wiped_at b area true Nothing = area
-wiped_at b area true (At i) = erased_area b area i
+wiped_at b area true None = area
+wiped_at b area true (Some i) = erased_area b area i
 
 abbrev pub delete_of : Book → ℕ → ℕ → Deleted
 delete_of b f p = deleted_at b (kind_of b.kinds f).made (place (meant f p) 0 (entries_of b))
@@ -97,9 +95,9 @@ add_area b area f key d = cond (eqb (code_of_add b area f key d) successful) (pu
 abbrev pub twin_at : Book → List ℕ → ℕ → List ℕ → ℕ → ℕ → Bool
 twin_at b area f key n i = cond (ltb 0 n) (is_at (place (key_at area f key) 0 (cut (entries_of b) i))) false
 
-abbrev pub update_at : Book → List ℕ → ℕ → List ℕ → Found → Got
-update_at b area f key Nothing = none_got invalid_record_pointer
-update_at b area f key (At i) =
+abbrev pub update_at : Book → List ℕ → ℕ → List ℕ → Option ℕ → Got
+update_at b area f key None = none_got invalid_record_pointer
+update_at b area f key (Some i) =
     cond (twin_at b area f key (kind_of b.kinds f).keymax i) (none_got search_key_existing) (record { code = successful; at = i; other = (get_or (entries_of b) i no_entry).pointer })
 
 abbrev pub update_seen : Book → List ℕ → ℕ → ℕ → List ℕ → List ℕ → Got

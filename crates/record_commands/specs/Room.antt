@@ -1,6 +1,5 @@
 -- How much the store takes, and which pointer a new record gets.
-use Rattle.std.specs.Prelude.{◌<◌, ℕ, ◌≤◌, cond, false, true, List, map, ◌≡◌, eqb, leb, ltb, length}
-use Rattle.std.proofs.Math.Option.{some}
+use Rattle.std.specs.Prelude.{◌<◌, ℕ, ◌≤◌, cond, false, true, List, map, ◌≡◌, eqb, leb, ltb, length, Some}
 use Rattle.book.specs.Book.{view_of}
 use Rattle.book.specs.declared.Book.{Book}
 use Rattle.files.specs.Files.{File, Record, held, keyed, look}
@@ -24,6 +23,6 @@ pub record NewPointer (rs : List Record) (p : ℕ) : Type 0 where
 -- '256 records in all'; 'adding is refused ('FFF6') exactly when 256 records are held'
 pub record RoomAdd (b : Book) (area : List ℕ) (f : ℕ) (key d : List ℕ) : Type 0 where
   pub few : held (view_of b area) ≤ 256
-  pub code : (g : File) → look f (view_of b area) ≡ some g → Addable g key d
+  pub code : (g : File) → look f (view_of b area) ≡ Some g → Addable g key d
       → (add_of b area f key d).code ≡ cond (leb 256 (held (view_of b area))) insufficient_resources successful
-  pub pointer : (g : File) → look f (view_of b area) ≡ some g → (add_of b area f key d).code ≡ successful → NewPointer g.records (add_of b area f key d).pointer
+  pub pointer : (g : File) → look f (view_of b area) ≡ Some g → (add_of b area f key d).code ≡ successful → NewPointer g.records (add_of b area f key d).pointer

@@ -18,7 +18,6 @@ ghost use Rattle.lists.specs.ByPlace.{is_at};
 ghost use Rattle.record_commands.specs.Records.{add_area, add_of, asked_code, code_of_add, twin_at, update_area, update_of, update_seen, delete_area, delete_of, erased_area, erased_book, find_delete_area, find_delete_of};
 
 use book::{Book, Entry, Kind};
-use lists::Found;
 use sights::Got;
 
 // The code, and the book after a record was deleted.
@@ -45,12 +44,12 @@ fn short(n: usize) -> u16
     (n % 65536) as u16
 }
 
-fn is_found(z: Found) -> bool
+fn is_found(z: Option<usize>) -> bool
     ensures { result ≡ is_at z }
 {
     match z {
-        Found::At(_) => true,
-        Found::Nothing => false,
+        Some(_) => true,
+        None => false,
     }
 }
 
@@ -134,13 +133,13 @@ fn has_twin(b: Book, area: &[u8], f: u16, key: &[u8], keymax: u16, at: usize) ->
         return false;
     }
     match store_entries::with_key(b, area, 0, f, key) {
-        Found::At(i) => {
+        Some(i) => {
             if i == at {
                 return is_found(store_entries::with_key(b, area, at + 1, f, key));
             }
             true
         }
-        Found::Nothing => false,
+        None => false,
     }
 }
 
@@ -155,7 +154,7 @@ fn update_seen(b: Book, area: &[u8], f: u16, p: u16, key: &[u8], bytes: &[u8]) -
         return sights::none_got(code);
     }
     match store_entries::first_from(b, 0, f, p) {
-        Found::At(i) => {
+        Some(i) => {
             if has_twin(b, area, f, key, k.keymax, i) {
                 return sights::none_got(tapa::SEARCH_KEY_EXISTING);
             }
@@ -166,7 +165,7 @@ fn update_seen(b: Book, area: &[u8], f: u16, p: u16, key: &[u8], bytes: &[u8]) -
                 other: x.pointer,
             }
         }
-        Found::Nothing => sights::none_got(tapa::INVALID_RECORD_POINTER),
+        None => sights::none_got(tapa::INVALID_RECORD_POINTER),
     }
 }
 
@@ -225,11 +224,11 @@ pub fn delete(b: Book, area: &mut [u8], f: u16, p: u16) -> Deleted
         };
     }
     match store_entries::first_from(b, 0, f, p) {
-        Found::At(i) => Deleted {
+        Some(i) => Deleted {
             code: tapa::SUCCESSFUL,
             next: erased(b, area, i),
         },
-        Found::Nothing => Deleted {
+        None => Deleted {
             code: tapa::INVALID_RECORD_POINTER,
             next: b,
         },

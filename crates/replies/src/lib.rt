@@ -17,45 +17,29 @@ ghost use Rattle.tapa.specs.Numbers.{two_bytes};
 ghost use Rattle.replies.specs.Checked.{opened};
 ghost use Rattle.replies.specs.Replies.{Replies};
 
-use message::{Head, Reading, Writing};
+use message::Head;
 use tapa::Refusal;
-
-// A message that a part may take, or why it is not looked at further.
-#[derive(Clone, Copy)]
-pub enum Checked {
-    Passed(Head),
-    Failed(Refusal),
-}
-
-// The length of the reply in the lent buffer, or why there is none. `Nothing` is of an Add Event,
-// which has no reply.
-#[derive(Clone, Copy)]
-pub enum Answer {
-    Reply(usize),
-    Nothing,
-    Refused(Refusal),
-}
 
 // ---- what comes in
 
 // The checks that are the same for every part, in their order; `room` is the length of the reply
 // buffer, and `least` that of the part's longest reply.
-pub fn open(message: &[u8], room: usize, least: usize) -> Checked
+pub fn open(message: &[u8], room: usize, least: usize) -> Result<Head, Refusal>
     ensures { result ≡ opened least room message.now }
 {
     if room < least {
-        return Checked::Failed(Refusal::BufferTooSmall);
+        return Err(Refusal::BufferTooSmall);
     }
     match message_reader::read(message) {
-        Reading::Refused(refusal) => Checked::Failed(refusal),
-        Reading::Message(head) => Checked::Passed(head),
+        Err(refusal) => Err(refusal),
+        Ok(head) => Ok(head),
     }
 }
 
 // ---- what goes back
 
 // A response to the message with this head, with these data.
-pub fn with_part(reply: &mut [u8], head: Head, part: &[u8]) -> Answer
+pub fn with_part(reply: &mut [u8], head: Head, part: &[u8]) -> Result<Option<usize>, Refusal>
     ensures { Replies head part.now reply.old reply.new result }
 {
     match message_writer::write(
@@ -66,13 +50,13 @@ pub fn with_part(reply: &mut [u8], head: Head, part: &[u8]) -> Answer
         head.thread,
         part,
     ) {
-        Writing::Written(n) => Answer::Reply(n),
-        Writing::Refused(refusal) => Answer::Refused(refusal),
+        Ok(n) => Ok(Some(n)),
+        Err(refusal) => Err(refusal),
     }
 }
 
 // A response that carries its code alone.
-pub fn with_code(reply: &mut [u8], head: Head, code: u16) -> Answer
+pub fn with_code(reply: &mut [u8], head: Head, code: u16) -> Result<Option<usize>, Refusal>
     ensures { Replies head (two_bytes code) reply.old reply.new result }
 {
     let part = [(code / 256) as u8, (code % 256) as u8];

@@ -17,7 +17,7 @@ ghost use Rattle.ruling.specs.declared.Ruling.TheVariants.{On};
 ghost use Rattle.routing.specs.Law.{Lawful};
 ghost use Rattle.routing.specs.Steps.{Wrote, Stepped, OnMessage};
 
-use message::{Head, Reading};
+use message::Head;
 use place::Place;
 use routing::Step;
 use rules::Outcome;
@@ -137,8 +137,8 @@ pub fn on_message(
         return routing::refuse(Refusal::BufferTooSmall, len);
     }
     match message_reader::read(message) {
-        Reading::Refused(refusal) => routing::refuse(refusal, len),
-        Reading::Message(head) => {
+        Err(refusal) => routing::refuse(refusal, len),
+        Ok(head) => {
             if !router_rows::is_listed(cells, count, tapa::handler(head.source)) {
                 return routing::refuse(Refusal::NotInTable, len);
             }

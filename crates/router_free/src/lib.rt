@@ -13,7 +13,6 @@ ghost use Rattle.table.specs.Table.{is_at, rows_of};
 ghost use Rattle.numbers.specs.Numbers.{cell_in, cell_of, raised_in, lowered_at, wiped, wiped_row};
 ghost use Rattle.numbers.specs.Free.{free_in};
 
-use lists::Found;
 use numbers::Freedom;
 use tapa::Refusal;
 
@@ -37,8 +36,8 @@ fn cell_of(cells: &[u32; 16], count: usize, asked: u16, thread: u8) -> usize
 {
     let handler = tapa::handler(asked);
     match router_rows::row_of(cells, count, handler) {
-        Found::Nothing => 128,
-        Found::At(row) => cell_in(row, handler, thread),
+        None => 128,
+        Some(row) => cell_in(row, handler, thread),
     }
 }
 
@@ -90,8 +89,8 @@ pub fn wipe(cells: &[u32; 16], count: usize, numbers: &mut [u8; 128], handler: u
     ensures { numbers.new ≡ wiped_row (find (is_at handler) (rows_of cells.now count)) numbers.old }
 {
     match router_rows::row_of(cells, count, handler) {
-        Found::Nothing => {}
-        Found::At(row) => wipe_row(numbers, row),
+        None => {}
+        Some(row) => wipe_row(numbers, row),
     }
 }
 
@@ -110,8 +109,8 @@ pub fn is_free(
 {
     let handler = tapa::handler(address);
     match router_rows::row_of(cells, count, handler) {
-        Found::Nothing => Freedom::Refused(Refusal::NotInTable),
-        Found::At(row) => {
+        None => Freedom::Refused(Refusal::NotInTable),
+        Some(row) => {
             if 7 < thread {
                 return Freedom::Refused(Refusal::ThreadAbove7);
             }

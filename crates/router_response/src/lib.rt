@@ -13,8 +13,7 @@ ghost use Rattle.rules.specs.Judge.{late};
 ghost use Rattle.ruling.specs.Ruling.{places_in};
 ghost use Rattle.routing.specs.Steps.{Placed, OnResponse, OpenOrClosed};
 
-use lists::Found;
-use message::{Coded, Head};
+use message::Head;
 use place::Place;
 use places::Leaf;
 use routing::Step;
@@ -44,7 +43,7 @@ fn on_late(list: &mut [u64; 48], len: usize, head: Head) -> Step
     ensures { Placed (late (places_in list len) head) list len result }
 {
     match router_walks::find_owed(list, len, head.source, head.thread) {
-        Found::At(i) => {
+        Some(i) => {
             let less = router_changes::remove(list, len, i);
             Step {
                 outcome: Outcome::Swallowed {
@@ -54,7 +53,7 @@ fn on_late(list: &mut [u64; 48], len: usize, head: Head) -> Step
                 len: less,
             }
         }
-        Found::Nothing => routing::refuse(Refusal::StrayResponse, len),
+        None => routing::refuse(Refusal::StrayResponse, len),
     }
 }
 
@@ -77,13 +76,13 @@ pub fn on_response(
     list: &mut [u64; 48],
     len: usize,
     head: Head,
-    coded: Coded,
+    coded: Option<u16>,
 ) -> Step
     requires lawful { places.Lawful list.old len }
     requires column { Column cells.old count }
     ensures { OnResponse cells count list len head coded result }
 {
-    let Coded::Code(code) = coded else {
+    let Some(code) = coded else {
         return routing::refuse(Refusal::NoResponseCode, len);
     };
     match router_walks::leaf_at(list, len, head.source, head.thread) {

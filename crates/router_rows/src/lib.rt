@@ -9,7 +9,6 @@ ghost use Rattle.std.specs.Prelude.{◌≡◌, ◌≤◌};
 ghost use Rattle.lists.specs.Lists.{find};
 ghost use Rattle.table.specs.Table.{address_at, is_at, listed, opened_at, Column, Opened, rows_of};
 
-use lists::Found;
 use table::Row;
 
 // ---- a row by its number
@@ -43,16 +42,16 @@ pub fn is_listed(cells: &[u32; 16], count: usize, handler: u16) -> bool
 }
 
 // The number of a handler's row.
-pub fn row_of(cells: &[u32; 16], count: usize, handler: u16) -> Found
+pub fn row_of(cells: &[u32; 16], count: usize, handler: u16) -> Option<usize>
     requires { count ≤ 16 }
     ensures { result ≡ find (is_at handler) (rows_of cells.now count) }
 {
     let wanted = handler as u32;
-    let mut found = Found::Nothing;
+    let mut found = None;
     let mut i = 0;
     while i < count {
         if cells[i] / 2 == wanted {
-            found = Found::At(i);
+            found = Some(i);
         }
         i += 1;
     }

@@ -9,7 +9,6 @@ ghost use Rattle.std.specs.Prelude.{◌≡◌};
 ghost use Rattle.lists.specs.Lists.{find, some_of};
 ghost use Rattle.places.specs.Places.{places_of, place_at, Lawful, owes_exactly, stands_on, stands_in, on_slot, leaf_by, leaf_of, standing_of};
 
-use lists::Found;
 use place::Place;
 use places::{Leaf, Standing};
 
@@ -29,12 +28,12 @@ pub fn place_at(list: &[u64; 48], n: usize, at: usize) -> Place
 // ---- a thread's tree
 
 // A wait that was found is a leaf, unless its handler holds a question.
-fn leaf_by(holds: bool, found: Found) -> Leaf
+fn leaf_by(holds: bool, found: Option<usize>) -> Leaf
     ensures { result ≡ leaf_by holds found }
 {
     match found {
-        Found::Nothing => Leaf::Missing,
-        Found::At(i) => {
+        None => Leaf::Missing,
+        Some(i) => {
             if holds {
                 return Leaf::Holds;
             }
@@ -50,12 +49,12 @@ pub fn leaf_at(list: &[u64; 48], n: usize, asked: u16, thread: u8) -> Leaf
     ensures { result ≡ leaf_of asked thread (places_of list.now n) }
 {
     let handler = tapa::handler(asked);
-    let mut found = Found::Nothing;
+    let mut found = None;
     let mut holds = false;
     let mut i = 0;
     while i < n {
         if router_tests::asks_exactly(list[i], asked, thread) {
-            found = Found::At(i);
+            found = Some(i);
         }
         if router_tests::holds_on(list[i], thread, handler) {
             holds = true;
@@ -91,7 +90,7 @@ pub fn standing_of(list: &[u64; 48], n: usize, thread: u8, handler: u16) -> Stan
 // ---- an owing, and a handler
 
 // The owing on a thread of exactly this asked address.
-pub fn find_owed(list: &[u64; 48], n: usize, asked: u16, thread: u8) -> Found
+pub fn find_owed(list: &[u64; 48], n: usize, asked: u16, thread: u8) -> Option<usize>
     requires { Lawful list.now n }
     ensures { result ≡ find (owes_exactly asked thread) (places_of list.now n) }
 {
@@ -99,10 +98,10 @@ pub fn find_owed(list: &[u64; 48], n: usize, asked: u16, thread: u8) -> Found
     while 0 < i {
         i -= 1;
         if router_tests::owes_exactly(list[i], asked, thread) {
-            return Found::At(i);
+            return Some(i);
         }
     }
-    Found::Nothing
+    None
 }
 
 // Whether a handler stands in a wait of a thread as asker or asked.

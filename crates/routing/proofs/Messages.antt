@@ -1,18 +1,17 @@
 -- A message by its type, a give up, and a replaced call: what is done.
 use Prim.Native.Nat.{ℕ, ◌≤◌}
+use Rattle.std.specs.Prelude.{Option, Some}
 use mathlib.Core.Path.{◌≡◌, refl, ◌∙◌}
 use mathlib.Core.Bool.{false}
 use mathlib.Core.List.{List}
 use lib.ListN.{length}
 use borrow.Author.Tests.{le-ltb}
-use Rattle.lists.specs.declared.Found.TheVariants.{At}
 use Rattle.lists.specs.Lists.{find, keep, changed_at, onto}
 use Rattle.lists.proofs.Tests.{split}
 use Rattle.lists.proofs.Numbers.{change-found}
 use Rattle.tapa.specs.Codes.{handler_error, event_handler}
 use Rattle.tapa.specs.declared.Refusal.TheVariants.{EventCannotBeTaken}
 use Rattle.message.specs.declared.Head.{Head}
-use Rattle.message.specs.declared.Coded.{Coded}
 use Rattle.message.specs.Message.{responded, response_of}
 use Rattle.table.specs.Table.{opened_at, rows_of, Column, Opened}
 use Rattle.places.specs.Places.{places_of, asks_exactly, not_owed_by, owing, Becomes}
@@ -45,8 +44,8 @@ module _ (c : List ℕ) (n : ℕ) (l : List ℕ) (k : ℕ) (g : places.Lawful l 
 
 -- ---- by type
 
-module _ (v : View) (h : Head) (code : Coded) where
-  pub response-steps : (o : Outcome) (coded : Coded) (c : List ℕ) (n : ℕ) (l b : List ℕ) (s : Step)
+module _ (v : View) (h : Head) (code : Option ℕ) where
+  pub response-steps : (o : Outcome) (coded : Option ℕ) (c : List ℕ) (n : ℕ) (l b : List ℕ) (s : Step)
       → o ≡ judge_response v.places h code
       → coded ≡ code
       → Moving (judge_response v.places h coded) v c n l s
@@ -74,7 +73,7 @@ step-as u o v c n l b after s e x = rw e x
 
 -- the wait that was found becomes an owing, and its asker gets a response
 pub gives : (l : List ℕ) (n t a i : ℕ) (o : Outcome) (m b after : List ℕ) (asker : ℕ)
-    → find (asks_exactly a t) (places_of l n) ≡ At i
+    → find (asks_exactly a t) (places_of l n) ≡ Some i
     → 10 ≤ length b
     → Becomes m n (changed_at owing i (places_of l n))
     → o ≡ Given asker a t

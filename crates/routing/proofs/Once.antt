@@ -1,11 +1,11 @@
 -- The contracts leave one answer, one content of the arrays and one of the reply buffer possible. Two calls are compared that were lent the same.
 use Prim.Native.Nat.{ℕ}
+use Rattle.std.specs.Prelude.{Option}
 use mathlib.Core.Path.{◌≡◌, sym, ◌∙◌}
 use mathlib.Core.List.{List, []}
 use denote.Ref.{MutBor}
 use Rattle.lists.proofs.Arrays.{one-array}
 use Rattle.message.specs.declared.Head.{Head}
-use Rattle.message.specs.declared.Coded.{Coded}
 use Rattle.table.specs.Table.{pack, unpack}
 use Rattle.place.specs.declared.Place.{Place}
 use Rattle.places.proofs.Once.{one_list}
@@ -39,7 +39,7 @@ module _ (list l l' : MutBor (List ℕ)) (k : ℕ) (s s' : Step) where
         let p = one-moving _ l.now l'.now s s' _ c.now c'.now n x.moving y.moving in
         (p.0, p.1, p.2, x.reply ∙ sym y.reply)
 
-    pub one-on-response : (h : Head) (coded : Coded)
+    pub one-on-response : (h : Head) (coded : Option ℕ)
         → OnResponse (lent cells c) n (lent list l) k h coded s
         → OnResponse (lent cells c') n (lent list l') k h coded s'
         → (s ≡ s') × (l.now ≡ l'.now) × (c.now ≡ c'.now)

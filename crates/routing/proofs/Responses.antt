@@ -1,11 +1,10 @@
 -- Type 'FF': what is done with the place that was found.
 use Prim.Native.Nat.{ℕ}
+use Rattle.std.specs.Prelude.{Some, None, Option}
 use mathlib.Core.Path.{◌≡◌, refl, sym, ap, ◌∙◌}
 use mathlib.Core.Bool.{true, false}
 use mathlib.Core.List.{List}
-use mathlib.Core.Option.{Option}
 use borrow.Author.Tests.{eq-eqb, ne_eqb}
-use Rattle.lists.specs.declared.Found.TheVariants.{At, Nothing}
 use Rattle.lists.specs.Lists.{find, without_at}
 use Rattle.lists.proofs.First.{first-meets, none_passes}
 use Rattle.lists.proofs.Numbers.{find_none, end-found}
@@ -30,7 +29,7 @@ use Rattle.routing.specs.Steps.{Placing, Moving, OpenOrClosed}
 
 module _ (l : List ℕ) (n : ℕ) (h : Head) where
   pub swallows : (i k : ℕ) (m : List ℕ)
-      → find (owes_exactly h.source h.thread) (places_of l n) ≡ At i
+      → find (owes_exactly h.source h.thread) (places_of l n) ≡ Some i
       → Becomes m k (without_at i (places_of l n))
       → Placing (late (places_of l n) h) (places_of l n) m (record { outcome = Swallowed h.source h.thread; len = k })
   swallows i k m f b =
@@ -39,7 +38,7 @@ module _ (l : List ℕ) (n : ℕ) (h : Head) where
       rw (late-swallowed (places_of l n) h (first-meets q q (places_of l n) (place_at l i) w.it w.meets))
       (record { outcome = refl; places = record { holds = b.holds ∙ end-found q (places_of l n) i f; law = b.law } })
 
-  pub strays : find (owes_exactly h.source h.thread) (places_of l n) ≡ Nothing → late (places_of l n) h ≡ Refused StrayResponse
+  pub strays : find (owes_exactly h.source h.thread) (places_of l n) ≡ None → late (places_of l n) h ≡ Refused StrayResponse
   strays f =
       let q = owes_exactly h.source h.thread in
       late-stray (places_of l n) h (none_passes q (places_of l n) (find_none q (places_of l n) f))
@@ -81,7 +80,7 @@ module _ (c : List ℕ) (n : ℕ) (l : List ℕ) (k : ℕ) (o : Outcome) where
   pub answers : (after m : List ℕ) (less i code source dest t : ℕ) (u : Outcome)
       → u ≡ Answered source dest t code
       → o ≡ Answered source dest t code
-      → find (asks_exactly source t) (places_of l k) ≡ At i
+      → find (asks_exactly source t) (places_of l k) ≡ Some i
       → OpenOrClosed c after n (place_at l i) code
       → Becomes m less (without_at i (places_of l k))
       → Moving o (held_view c n l k) after n m (record { outcome = u; len = less })

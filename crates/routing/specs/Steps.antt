@@ -1,10 +1,8 @@
 -- What the functions that change the state's arrays in place show.
-use Rattle.std.specs.Prelude.{ℕ, ◌≡◌, List, length}
-use Rattle.std.proofs.Math.Option.{some}
+use Rattle.std.specs.Prelude.{ℕ, ◌≡◌, List, length, Option, Some}
 use Rattle.lists.specs.Arrays.{Becoming}
 use Rattle.tapa.specs.declared.Refusal.{Refusal}
 use Rattle.message.specs.declared.Head.{Head}
-use Rattle.message.specs.declared.Coded.{Coded}
 use Rattle.table.specs.declared.Row.{Row}
 use Rattle.table.specs.Table.{pack, unpack, rows_of}
 use Rattle.place.specs.declared.Place.{Place}
@@ -78,9 +76,9 @@ OnReplaced cells n list k a s = Moved (judge_replaced (view_in cells n list k) a
 
 -- ---- Type 'FF'
 
-abbrev pub OnResponse : (cells : Lent) → (n : ℕ) → (list : Lent) → (k : ℕ) → Head → Coded → Step → Type 0
+abbrev pub OnResponse : (cells : Lent) → (n : ℕ) → (list : Lent) → (k : ℕ) → Head → Option ℕ → Step → Type 0
 OnResponse cells n list k h coded s = Moved (judge_response (places_in list k) h coded) cells n list k s
 
 -- the cells once the wait w was answered with a code
 abbrev pub OpenOrClosed : (before after : List ℕ) → (n : ℕ) → Place → (code : ℕ) → Type 0
-OpenOrClosed before after n w code = Tabled after n (answered_rows (some w) code (rows_of before n))
+OpenOrClosed before after n w code = Tabled after n (answered_rows (Some w) code (rows_of before n))

@@ -1,9 +1,9 @@
 -- What stands after an outcome, in the page's words.
 use Prim.Native.Nat.{ℕ, ◌+◌, ◌≤◌}
+use Rattle.std.specs.Prelude.{Some}
 use mathlib.Core.Path.{◌≡◌, refl, ap, ◌∙◌}
 use mathlib.Core.Bool.{Bool, true, false, not, ◌||◌, ◌&&◌, or-true}
 use mathlib.Core.List.{List}
-use mathlib.Core.Option.{some}
 use native.Mathlib.Omega.{arith}
 use lib.Dec.{eqb}
 use borrow.Author.Tests.{eqb-true, eq-eqb}
@@ -49,7 +49,7 @@ exact-once v c a t =
 -- ---- 'it is passed and becomes' a wait of its thread's tree, the newest
 
 pub passed-newest : (v : View) (asker asked kind t : ℕ)
-    → first (open_on t) (applied (Passed asker asked kind t) v).places ≡ some (place asker asked kind t)
+    → first (open_on t) (applied (Passed asker asked kind t) v).places ≡ Some (place asker asked kind t)
 passed-newest v asker asked kind t = rw (eqb_same t)
 
 -- ---- 'it is answered and the wait ends'; 'the message is swallowed ... and the owing ends'

@@ -1,9 +1,10 @@
 -- What the view was like where a call had an outcome. Every theorem about a step is drawn from here, and not from the text of `judge`.
 use Prim.Native.Nat.{ℕ, ◌≤◌}
+use Rattle.tapa.specs.declared.Refusal.{Refusal}
+use Rattle.std.specs.Prelude.{Some, None, Result, Ok, Err, Option}
 use mathlib.Core.Path.{◌≡◌, refl}
 use mathlib.Core.Bool.{true, false, not}
 use mathlib.Core.List.{List, [], ◌∷◌}
-use mathlib.Core.Option.{Option, none, some}
 use lib.Dec.{eqb, ltb}
 use borrow.Author.Tests.{not-false, ltb-false, eqb-true}
 use Rattle.lists.specs.Lists.{some_of, first, In}
@@ -13,10 +14,6 @@ use Rattle.tapa.specs.Address.{handler_of}
 use Rattle.tapa.specs.Codes.{response, event_handler}
 use Rattle.tapa.specs.declared.Refusal.TheVariants.{NotInTable, StandsInAWait, HoldsAQuestion}
 use Rattle.message.specs.declared.Head.{Head}
-use Rattle.message.specs.declared.Reading.{Reading}
-use Rattle.message.specs.declared.Reading.TheVariants.{Message, Refused as Unread}
-use Rattle.message.specs.declared.Coded.{Coded}
-use Rattle.message.specs.declared.Coded.TheVariants.{Code, Missing}
 use Rattle.message.specs.Message.{read_of, part_of, code_of}
 use Rattle.table.specs.Table.{listed, opened_at}
 use Rattle.place.specs.declared.Place.{Place}
@@ -40,7 +37,7 @@ pub record Fit (v : View) (asker asked kind t : ℕ) : Type 0 where
 -- the wait of thread t that asks exactly this address, for this asker, and whose handler holds no question there: a leaf of the tree
 pub record Leaf (v : View) (asker asked t : ℕ) : Type 0 where
   pub it : Place
-  pub found : first (asks_exactly asked t) v.places ≡ some it
+  pub found : first (asks_exactly asked t) v.places ≡ Some it
   pub its-asked : it.asked ≡ asked
   pub its-asker : it.asker ≡ asker
   pub holds-none : holding v.places asked t ≡ false
@@ -63,7 +60,7 @@ Allowed v (Refused r) = Unit {0}
 
 -- ---- a leaf
 
-leaf-is : (v : View) (w : Place) (asker asked t : ℕ) → answerable v.places asked t ≡ some w → w.asker ≡ asker → holding v.places asked t ≡ false → t ≤ 7
+leaf-is : (v : View) (w : Place) (asker asked t : ℕ) → answerable v.places asked t ≡ Some w → w.asker ≡ asker → holding v.places asked t ≡ false → t ≤ 7
     → Leaf v asker asked t
 leaf-is v w asker asked t e q n small = record {
   it = w;
@@ -83,15 +80,15 @@ late_is v h small = split (some_of (owes_exactly h.source h.thread) v.places) (�
 reply-is : (v : View) (o : Option Place) (h : Head) (code : ℕ) → answerable v.places h.source h.thread ≡ o → h.thread ≤ 7
     → Allowed v (reply v.places o h code)
 unfolding reply
-reply-is v none h code e small = late_is v h small
-reply-is v (some w) h code e small =
+reply-is v None h code e small = late_is v h small
+reply-is v (Some w) h code e small =
     checks-are (Allowed v) (reply_tests v.places w h) (Answered h.source h.destination h.thread code) (tt, (tt, tt))
     (λ p. leaf-is v w h.destination h.source h.thread e (eqb-true w.asker h.destination (not-false _ p.1.0)) p.0 small)
 
-response-is : (v : View) (h : Head) (code : Coded) → h.thread ≤ 7 → Allowed v (judge_response v.places h code)
+response-is : (v : View) (h : Head) (code : Option ℕ) → h.thread ≤ 7 → Allowed v (judge_response v.places h code)
 unfolding judge_response
-response-is v h Missing small = tt
-response-is v h (Code code) small = reply-is v (answerable v.places h.source h.thread) h code refl small
+response-is v h None small = tt
+response-is v h (Some code) small = reply-is v (answerable v.places h.source h.thread) h code refl small
 
 -- ---- a command
 
@@ -104,16 +101,16 @@ command-allowed v h there small =
 
 -- ---- a message
 
-kind-is : (v : View) (h : Head) (code : Coded) → listed (handler_of h.source) v.rows ≡ true → h.thread ≤ 7 → Allowed v (judge_kind v h code)
+kind-is : (v : View) (h : Head) (code : Option ℕ) → listed (handler_of h.source) v.rows ≡ true → h.thread ≤ 7 → Allowed v (judge_kind v h code)
 unfolding judge_kind
 kind-is v h code known small =
     split (eqb h.kind response) (λ p. rw p (response-is v h code small))
     (λ p. rw p (split (is_add_event h) (λ q. rw q (event-is v)) (λ q. rw q (command-allowed v h known small))))
 
-read_is : (v : View) (r : Reading) (code : Coded) → Allowed v (judge_read v r code)
+read_is : (v : View) (r : Result Head Refusal) (code : Option ℕ) → Allowed v (judge_read v r code)
 unfolding judge_read
-read_is v (Unread r) code = tt
-read_is v (Message h) code =
+read_is v (Err r) code = tt
+read_is v (Ok h) code =
     checks-are (Allowed v) (common_tests v.rows h) (judge_kind v h code) (tt, (tt, tt))
     (λ a. kind-is v h code (not-false _ a.0) (ltb-false 7 h.thread a.1.0))
 
@@ -125,8 +122,8 @@ message-is v room s = split (ltb room 10) (λ p. rw p tt) (λ p. rw p (read_is v
 
 yields-is : (v : View) (t a : ℕ) (o : Option Place) → answerable v.places a t ≡ o → t ≤ 7 → Allowed v (yields v.places o t a)
 unfolding yields
-yields-is v t a none e small = tt
-yields-is v t a (some w) e small =
+yields-is v t a None e small = tt
+yields-is v t a (Some w) e small =
     checks-are (Allowed v) ((holding v.places a t, Refused HoldsAQuestion) ∷ []) (Given w.asker a t) (tt, tt)
     (λ p. leaf-is v w w.asker a t e refl p.0 small)
 

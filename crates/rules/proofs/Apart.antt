@@ -2,10 +2,10 @@
 -- on one thread, or none. A give up looks at the places of its own thread; a message looks at the rows, too, and, where it is a command, at whether
 -- the handler that it asks has a command under way. All of it holds in any view.
 use Prim.Native.Nat.{ℕ}
+use Rattle.std.specs.Prelude.{Some, None, Option}
 use mathlib.Core.Path.{◌≡◌, refl, sym, ap, ap₂, ◌∙◌}
 use mathlib.Core.Bool.{Bool, true, false, not, ◌||◌, cond}
 use mathlib.Core.List.{List}
-use mathlib.Core.Option.{Option, none, some}
 use lib.Dec.{eqb}
 use borrow.Author.Tests.{eqb-true}
 use Rattle.lists.specs.Lists.{some_of, keep, first, without, changed}
@@ -15,8 +15,6 @@ use Rattle.lists.proofs.First.{some-changed}
 use Rattle.tapa.specs.Address.{category_of, handler_of, till_driver, multi}
 use Rattle.tapa.specs.Codes.{response}
 use Rattle.message.specs.declared.Head.{Head}
-use Rattle.message.specs.declared.Coded.{Coded}
-use Rattle.message.specs.declared.Coded.TheVariants.{Code, Missing}
 use Rattle.place.specs.declared.Place.{Place}
 use Rattle.places.specs.Places.{is_owed, on_thread, open_on, owed_on, asks_exactly, owes_exactly, asks, stands, holds_on, holding, on_slot, not_owed_by, owing}
 use Rattle.rules.specs.View.{View}
@@ -153,8 +151,8 @@ slot-given h t a u l = some-changed owing (on_slot h t) (asks_exactly a u) (λ x
 module _ (v w : View) (t : ℕ) (e : part (of_thread t) v.places ≡ part (of_thread t) w.places) where
   yields-same : (o : Option Place) (a : ℕ) → yields v.places o t a ≡ yields w.places o t a
   unfolding yields
-  yields-same none a = refl
-  yields-same (some x) a = rw (holding-same t v.places w.places e a)
+  yields-same None a = refl
+  yields-same (Some x) a = rw (holding-same t v.places w.places e a)
 
   pub give-up-same : (room a : ℕ) → judge_give_up v room t a ≡ judge_give_up w room t a
   unfolding judge_give_up
@@ -182,13 +180,13 @@ module _ (v w : View) (rows : v.rows ≡ w.rows) where
 
     reply-same : (o : Option Place) (code : ℕ) → reply v.places o h code ≡ reply w.places o h code
     unfolding reply
-    reply-same none code = late-same
-    reply-same (some x) code = rw (holding-same h.thread v.places w.places e h.source)
+    reply-same None code = late-same
+    reply-same (Some x) code = rw (holding-same h.thread v.places w.places e h.source)
 
-    response-same : (code : Coded) → judge_response v.places h code ≡ judge_response w.places h code
+    response-same : (code : Option ℕ) → judge_response v.places h code ≡ judge_response w.places h code
     unfolding judge_response
-    response-same Missing = refl
-    response-same (Code code) =
+    response-same None = refl
+    response-same (Some code) =
         rw (answerable-same h.thread v.places w.places e h.source, reply-same (answerable w.places h.source h.thread) code)
 
     abbrev pub SlotSame : Type 0
@@ -204,7 +202,7 @@ module _ (v w : View) (rows : v.rows ≡ w.rows) where
           rows,
         )
 
-    pub kind-same : (code : Coded) → (eqb h.kind response ≡ false → is_add_event h ≡ false → SlotSame) → judge_kind v h code ≡ judge_kind w h code
+    pub kind-same : (code : Option ℕ) → (eqb h.kind response ≡ false → is_add_event h ≡ false → SlotSame) → judge_kind v h code ≡ judge_kind w h code
     unfolding judge_kind
     kind-same code f =
         split (eqb h.kind response) (λ p. rw p (response-same code))

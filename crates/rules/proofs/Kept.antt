@@ -1,9 +1,9 @@
 -- The law is kept: an accepted table stays proper, and the conduct holds in the fresh view and after every outcome that `judge` can give.
 use Prim.Native.Nat.{ℕ, ◌≤◌}
+use Rattle.std.specs.Prelude.{Option, Some, None}
 use mathlib.Core.Path.{◌≡◌, refl, ◌∙◌}
 use mathlib.Core.Bool.{Bool, true, false, not, ◌||◌, ◌&&◌}
 use mathlib.Core.List.{List, [], ◌∷◌}
-use mathlib.Core.Option.{Option, none, some}
 use native.Mathlib.Omega.{arith}
 use lib.Dec.{eqb}
 use borrow.Author.Tests.{eqb-true}
@@ -35,8 +35,8 @@ use Rattle.rules.proofs.Allowed.{Allowed, Leaf, allowed}
 answered-rows-by : (P : List Row → Type 0) (rows : List Row) → P rows → ((h : ℕ) (b : Bool) → P (set_opened h b rows))
     → (o : Option Place) (k : ℕ) → P (answered_rows o k rows)
 unfolding answered_rows
-answered-rows-by P rows p f none k = p
-answered-rows-by P rows p f (some w) k =
+answered-rows-by P rows p f None k = p
+answered-rows-by P rows p f (Some w) k =
     split (eqb k successful && eqb w.kind open_handler) (λ b. rw b (f (handler_of w.asked) true))
     (λ b. rw b (split (eqb k successful && eqb w.kind close_handler) (λ q. rw q (f (handler_of w.asked) false)) (λ q. rw q p)))
 

@@ -1,9 +1,9 @@
 -- Request 05 in the rules: who is answered, who is given up, and the tree that is left.
 use Prim.Native.Nat.{ℕ, ◌≤◌}
+use Rattle.std.specs.Prelude.{Some, Option, None}
 use mathlib.Core.Path.{◌≡◌, refl, subst}
 use mathlib.Core.Bool.{true, false}
 use mathlib.Core.List.{List, ◌∷◌}
-use mathlib.Core.Option.{Option, none, some}
 use lib.Dec.{eqb, ltb}
 use borrow.Author.Tests.{eqb-true, ltb-false}
 use Rattle.lists.specs.Lists.{some_of, first, without}
@@ -12,7 +12,6 @@ use Rattle.lists.proofs.First.{first-yes, first-meets, none_passes}
 use Rattle.lists.proofs.Kept.{without-within, changed-out}
 use Rattle.tapa.specs.declared.Refusal.TheVariants.{ThreadAbove7, StrayResponse, WrongAsker, BufferTooSmall, HoldsAQuestion}
 use Rattle.message.specs.declared.Head.{Head}
-use Rattle.message.specs.declared.Coded.TheVariants.{Code}
 use Rattle.place.specs.declared.Place.{Place}
 use Rattle.places.specs.Places.{open_on, asks_exactly, owes_exactly, holding, owing}
 use Rattle.rules.specs.View.{View}
@@ -34,24 +33,24 @@ use Rattle.rules.proofs.Steps.{response-answered, give-up-holding, give-up-given
 -- a wait of the thread with exactly this source as its asked address, whose handler holds no question there, and whose asker is the destination
 pub record Answers (places : List Place) (h : Head) : Type 0 where
   pub it : Place
-  pub found : answerable places h.source h.thread ≡ some it
+  pub found : answerable places h.source h.thread ≡ Some it
   pub holds-none : holding places h.source h.thread ≡ false
   pub to-asker : it.asker ≡ h.destination
 
 module _ (places : List Place) (h : Head) (code : ℕ) where
   -- 'A response answers its wait only if the answering handler holds no open question itself on that thread'
-  pub answered-only : judge_response places h (Code code) ≡ Answered h.source h.destination h.thread code → Answers places h
+  pub answered-only : judge_response places h (Some code) ≡ Answered h.source h.destination h.thread code → Answers places h
   unfolding judge_response reply late
   answered-only e = go (answerable places h.source h.thread) refl e
     where
       go : (o : Option Place) → answerable places h.source h.thread ≡ o
           → reply places o h code ≡ Answered h.source h.destination h.thread code
           → Answers places h
-      go none f e =
+      go None f e =
           split (some_of (owes_exactly h.source h.thread) places)
           (λ p. let z : Swallowed h.source h.thread ≡ Answered h.source h.destination h.thread code = rw p at e in differ (cc))
           (λ p. let z : Refused StrayResponse ≡ Answered h.source h.destination h.thread code = rw p at e in differ (cc))
-      go (some w) f e =
+      go (Some w) f e =
           split (holding places h.source h.thread)
           (λ p. let z : Refused StrayResponse ≡ Answered h.source h.destination h.thread code = rw p at e in differ (cc))
           (λ p. split (eqb w.asker h.destination)
@@ -59,8 +58,8 @@ module _ (places : List Place) (h : Head) (code : ℕ) where
           (λ q. let z : Refused WrongAsker ≡ Answered h.source h.destination h.thread code = rw (p, q) at e in differ (cc)))
 
   -- and then it does
-  pub answered-then : Answers places h → judge_response places h (Code code) ≡ Answered h.source h.destination h.thread code
-  answered-then a = response-answered places h (Code code) code refl a.it a.found a.holds-none a.to-asker
+  pub answered-then : Answers places h → judge_response places h (Some code) ≡ Answered h.source h.destination h.thread code
+  answered-then a = response-answered places h (Some code) code refl a.it a.found a.holds-none a.to-asker
 
 -- ---- who is given up
 
@@ -83,8 +82,8 @@ module _ (v : View) (room t a : ℕ) where
       (λ q. go (ltb-false room 10 p) (ltb-false 7 t q) (answerable v.places a t) refl (rw (p, q) at e)))
     where
       go : 10 ≤ room → t ≤ 7 → (o : Option Place) → answerable v.places a t ≡ o → yields v.places o t a ≡ Refused HoldsAQuestion → HeldUp v room t a
-      go r s none f e = differ (cc)
-      go r s (some w) f e =
+      go r s None f e = differ (cc)
+      go r s (Some w) f e =
           split (holding v.places a t)
           (λ b. record {
             enough = r;
@@ -98,11 +97,11 @@ module _ (v : View) (room t a : ℕ) where
   twenty-then k = go (answerable v.places a t) refl
     where
       go : (o : Option Place) → answerable v.places a t ≡ o → judge_give_up v room t a ≡ Refused HoldsAQuestion
-      go none f = clash (some_of (asks_exactly a t) v.places) k.has-wait (none_passes (asks_exactly a t) v.places f)
-      go (some w) f = give-up-holding v room t a k.enough k.thread-small w f k.holds
+      go None f = clash (some_of (asks_exactly a t) v.places) k.has-wait (none_passes (asks_exactly a t) v.places f)
+      go (Some w) f = give-up-holding v room t a k.enough k.thread-small w f k.holds
 
 -- the newest wait of a thread is a leaf: whoever gives up the newest first never meets 20
-pub newest-given : (v : View) → Conduct v → (room t : ℕ) (w : Place) → 10 ≤ room → t ≤ 7 → first (open_on t) v.places ≡ some w
+pub newest-given : (v : View) → Conduct v → (room t : ℕ) (w : Place) → 10 ≤ room → t ≤ 7 → first (open_on t) v.places ≡ Some w
     → (asker : ℕ) × (judge_give_up v room t w.asked ≡ Given asker w.asked t)
 newest-given v c room t w enough small e = go (answerable v.places w.asked t) refl
   where
@@ -110,8 +109,8 @@ newest-given v c room t w enough small e = go (answerable v.places w.asked t) re
     has = first-meets (asks_exactly w.asked t) (open_on t) v.places w e (rw (first-yes (open_on t) v.places w e, eqb_same w.asked))
 
     go : (o : Option Place) → answerable v.places w.asked t ≡ o → (asker : ℕ) × (judge_give_up v room t w.asked ≡ Given asker w.asked t)
-    go none f = clash (some_of (asks_exactly w.asked t) v.places) has (none_passes (asks_exactly w.asked t) v.places f)
-    go (some x) f = (x.asker, give-up-given v room t w.asked enough small x f (newest-holds-none t v.places w (c.trees t) e))
+    go None f = clash (some_of (asks_exactly w.asked t) v.places) has (none_passes (asks_exactly w.asked t) v.places f)
+    go (Some x) f = (x.asker, give-up-given v room t w.asked enough small x f (newest-holds-none t v.places w (c.trees t) e))
 
 -- ---- the tree after an outcome
 

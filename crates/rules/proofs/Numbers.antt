@@ -1,10 +1,10 @@
 -- The page's numbers, codes and words at every place of 'Routing one message', Give up and Replaced, in the page's order and written out: what
 -- `said_outcome` says of the outcome of a call. Each law's premises are the checks before it, which did not apply.
 use Prim.Native.Nat.{ℕ, ◌+◌, ◌≤◌, ◌<◌}
+use Rattle.std.specs.Prelude.{Some, None, Ok}
 use mathlib.Core.Path.{◌≡◌, refl, ap, ◌∙◌}
 use mathlib.Core.Bool.{true, false}
 use mathlib.Core.List.{List, [], ◌∷◌}
-use mathlib.Core.Option.{none, some}
 use lib.Dec.{eqb}
 use lib.ListN.{length}
 use borrow.Author.Tests.{eqb-true, ne_eqb}
@@ -15,8 +15,6 @@ use Rattle.tapa.specs.Numbers.{word_at}
 use Rattle.tapa.specs.Said.{refused, says, passed, answered, swallowed, event, turned, given, reset}
 use Rattle.known_types.specs.Types.{known}
 use Rattle.message.specs.declared.Head.{Head}
-use Rattle.message.specs.declared.Reading.TheVariants.{Message}
-use Rattle.message.specs.declared.Coded.TheVariants.{Code, Missing}
 use Rattle.message.specs.Message.{read_of, part_of, code_of, response_of}
 use Rattle.message.proofs.Laws.{reads_short, reads-long, reads-fewer, reads_more}
 use Rattle.table.specs.Table.{listed, opened_at}
@@ -59,7 +57,7 @@ module _ (v : View) (room : ℕ) (s : List ℕ) where
     pub message-19 : word_at s 6 ≤ 1024 → 8 + word_at s 6 < length s → said_outcome (judge v room (message s)) ≡ refused 19
     message-19 m n = ap said_outcome (message-unread v room s enough (read_of s) refl _ (reads_more s m n))
 
-    module _ (h : Head) (r : read_of s ≡ Message h) where
+    module _ (h : Head) (r : read_of s ≡ Ok h) where
       pub message-4 : listed (handler_of h.source) v.rows ≡ false → said_outcome (judge v room (message s)) ≡ refused 4
       message-4 n = ap said_outcome (message-unlisted v room s enough (read_of s) refl h r n)
 
@@ -73,11 +71,11 @@ module _ (v : View) (room : ℕ) (s : List ℕ) where
 
           -- Type 'FF'
           module _ (k : h.kind ≡ 0xFF) where
-            pub message-6 : code_of (part_of s) ≡ Missing → said_outcome (judge v room (message s)) ≡ refused 6
+            pub message-6 : code_of (part_of s) ≡ None → said_outcome (judge v room (message s)) ≡ refused 6
             message-6 e = ap said_outcome (by_kind ∙ kind-response v h _ k ∙ response-missing v.places h _ e)
 
-            module _ (code : ℕ) (e : code_of (part_of s) ≡ Code code) where
-              module _ (w : Place) (f : answerable v.places h.source h.thread ≡ some w) where
+            module _ (code : ℕ) (e : code_of (part_of s) ≡ Some code) where
+              module _ (w : Place) (f : answerable v.places h.source h.thread ≡ Some w) where
                 pub message-7-holding : holding v.places h.source h.thread ≡ true → said_outcome (judge v room (message s)) ≡ refused 7
                 message-7-holding b = ap said_outcome (by_kind ∙ kind-response v h _ k ∙ response-holding v.places h _ code e w f b)
 
@@ -88,7 +86,7 @@ module _ (v : View) (room : ℕ) (s : List ℕ) where
                   pub message-answered : w.asker ≡ h.destination → said_outcome (judge v room (message s)) ≡ says answered (h.destination ∷ [])
                   message-answered d = ap said_outcome (by_kind ∙ kind-response v h _ k ∙ response-answered v.places h _ code e w f n d)
 
-              module _ (f : answerable v.places h.source h.thread ≡ none) where
+              module _ (f : answerable v.places h.source h.thread ≡ None) where
                 pub message-swallowed : some_of (owes_exactly h.source h.thread) v.places ≡ true → said_outcome (judge v room (message s)) ≡ says swallowed []
                 message-swallowed o =
                     ap said_outcome (by_kind ∙ kind-response v h _ k ∙ response-late v.places h _ code e f ∙ late-swallowed v.places h o)
@@ -151,10 +149,10 @@ module _ (v : View) (room t a : ℕ) where
     give-up-5 l = ap said_outcome (give-up-thread v room t a enough l)
 
     module _ (l : t ≤ 7) where
-      pub give-up-14 : answerable v.places a t ≡ none → said_outcome (judge v room (give_up t a)) ≡ refused 14
+      pub give-up-14 : answerable v.places a t ≡ None → said_outcome (judge v room (give_up t a)) ≡ refused 14
       give-up-14 e = ap said_outcome (give-up-none v room t a enough l e)
 
-      module _ (w : Place) (e : answerable v.places a t ≡ some w) where
+      module _ (w : Place) (e : answerable v.places a t ≡ Some w) where
         pub give-up-20 : holding v.places a t ≡ true → said_outcome (judge v room (give_up t a)) ≡ refused 20
         give-up-20 b = ap said_outcome (give-up-holding v room t a enough l w e b)
 

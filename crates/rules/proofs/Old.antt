@@ -1,5 +1,6 @@
 -- The old list of rules, a to f (specs/Old.antt): rule f was never met, and so a to e decide what a to f decided; and what rule f said.
 use Prim.Native.Nat.{ℕ, ◌≤◌, ◌<◌}
+use Rattle.std.specs.Prelude.{Ok}
 use mathlib.Core.Path.{◌≡◌, refl, sym, ap, ◌∙◌}
 use mathlib.Core.Logic.{inl, inr}
 use mathlib.Core.Bool.{Bool, true, false}
@@ -12,7 +13,6 @@ use Rattle.lists.proofs.Tests.{checks-skip, checks-said}
 use Rattle.tapa.specs.Address.{handler_of}
 use Rattle.tapa.specs.Codes.{insufficient_resources, response}
 use Rattle.message.specs.declared.Head.{Head}
-use Rattle.message.specs.declared.Reading.TheVariants.{Message}
 use Rattle.message.specs.Message.{read_of}
 use Rattle.table.specs.Table.{listed, Proper}
 use Rattle.rules.specs.View.{View}
@@ -73,7 +73,7 @@ module _ (v : View) (h : Head) (e : judge_command v h ≡ Passed h.source h.dest
   f-passed room = let t : test ≡ false = lt-leb _ (length v.places) (omega (arith, room)) in f-last v h ∙ rw (e, t)
 
 -- a message that is a command had of the old judge what the old list made of it
-pub old-of-command : (v : View) (room : ℕ) (s : List ℕ) (h : Head) → 10 ≤ room → read_of s ≡ Message h → listed (handler_of h.source) v.rows ≡ true
+pub old-of-command : (v : View) (room : ℕ) (s : List ℕ) (h : Head) → 10 ≤ room → read_of s ≡ Ok h → listed (handler_of h.source) v.rows ≡ true
     → h.thread ≤ 7 → (h.kind ≡ response → ⊥) → is_add_event h ≡ false → old_judge v room (message s) ≡ old_command v h
 old-of-command v room s h enough r y small k e =
     ap (with_f v) (message-kind v room s enough (read_of s) refl h r y small ∙ kind-command v h _ k e) ∙ sym (f-last v h)

@@ -1,10 +1,10 @@
 -- 'If it was Open Handler or Close Handler and the code is '0000', the handler becomes open or closed.' Exactly then: the types and the code stand
 -- here as bytes.
 use Prim.Native.Nat.{ℕ}
+use Rattle.std.specs.Prelude.{Some}
 use mathlib.Core.Path.{◌≡◌, refl}
 use mathlib.Core.Bool.{Bool, true, false, ◌&&◌, cond, and-false}
 use mathlib.Core.List.{List, [], ◌∷◌}
-use mathlib.Core.Option.{some}
 use lib.Dec.{eqb}
 use borrow.Author.Tests.{ne_eqb}
 use Rattle.tapa.specs.Address.{category_of, handler_of, multi}
@@ -19,28 +19,28 @@ use Rattle.rules.specs.Apply.{answered_rows, applied}
 use Rattle.rules.proofs.Sums.{row}
 
 module _ (w : Place) (code : ℕ) (rows : List Row) where
-  pub answered-moves : answered_rows (some w) code rows
+  pub answered-moves : answered_rows (Some w) code rows
       ≡ cond (eqb code 0x0000 && eqb w.kind 0xF0)
       (set_opened (handler_of w.asked) true rows)
       (cond (eqb code 0x0000 && eqb w.kind 0xF1) (set_opened (handler_of w.asked) false rows) rows)
   unfolding answered_rows
   answered-moves = refl
 
-  pub opens : code ≡ 0x0000 → w.kind ≡ 0xF0 → answered_rows (some w) code rows ≡ set_opened (handler_of w.asked) true rows
+  pub opens : code ≡ 0x0000 → w.kind ≡ 0xF0 → answered_rows (Some w) code rows ≡ set_opened (handler_of w.asked) true rows
   unfolding answered_rows
   opens c k = rw (c, k)
 
-  pub closes : code ≡ 0x0000 → w.kind ≡ 0xF1 → answered_rows (some w) code rows ≡ set_opened (handler_of w.asked) false rows
+  pub closes : code ≡ 0x0000 → w.kind ≡ 0xF1 → answered_rows (Some w) code rows ≡ set_opened (handler_of w.asked) false rows
   unfolding answered_rows
   closes c k = rw (c, k)
 
   -- a failed Open or Close moves no mark
-  pub other-code : (code ≡ 0x0000 → ⊥) → answered_rows (some w) code rows ≡ rows
+  pub other-code : (code ≡ 0x0000 → ⊥) → answered_rows (Some w) code rows ≡ rows
   unfolding answered_rows
   other-code n = rw (ne_eqb code 0x0000 n)
 
   -- nor does an answer to any other command
-  pub other-type : (w.kind ≡ 0xF0 → ⊥) → (w.kind ≡ 0xF1 → ⊥) → answered_rows (some w) code rows ≡ rows
+  pub other-type : (w.kind ≡ 0xF0 → ⊥) → (w.kind ≡ 0xF1 → ⊥) → answered_rows (Some w) code rows ≡ rows
   unfolding answered_rows
   other-type n m = rw (ne_eqb w.kind 0xF0 n, ne_eqb w.kind 0xF1 m, and-false)
 

@@ -1,9 +1,9 @@
 -- An outcome says what its call said: its addresses, type and thread are those of the message's bytes, of the give up, of the replaced call.
 use Prim.Native.Nat.{ℕ}
+use Rattle.std.specs.Prelude.{Some, None, Result, Ok, Err, Option}
 use mathlib.Core.Path.{◌≡◌, refl}
 use mathlib.Core.Logic.{inl, inr}
 use mathlib.Core.List.{List}
-use mathlib.Core.Option.{Option, none, some}
 use lib.Dec.{eqb, ltb}
 use borrow.Author.Tests.{eqb-true}
 use Rattle.lists.specs.Lists.{some_of}
@@ -13,10 +13,6 @@ use Rattle.tapa.specs.Codes.{response, event_handler}
 use Rattle.tapa.specs.declared.Refusal.{Refusal}
 use Rattle.tapa.specs.declared.Refusal.TheVariants.{BufferTooSmall}
 use Rattle.message.specs.declared.Head.{Head}
-use Rattle.message.specs.declared.Reading.{Reading}
-use Rattle.message.specs.declared.Reading.TheVariants.{Message, Refused as Unread}
-use Rattle.message.specs.declared.Coded.{Coded}
-use Rattle.message.specs.declared.Coded.TheVariants.{Code, Missing}
 use Rattle.message.specs.Message.{read_of, part_of, code_of}
 use Rattle.table.specs.Table.{listed, opened_at}
 use Rattle.place.specs.declared.Place.{Place}
@@ -30,21 +26,21 @@ use Rattle.rules.proofs.Steps.{command-is}
 
 -- ---- a message
 module _ (v : View) (h : Head) where
-  response-says : (code : Coded) → h.kind ≡ response → Spoken h code (judge_response v.places h code)
+  response-says : (code : Option ℕ) → h.kind ≡ response → Spoken h code (judge_response v.places h code)
   unfolding judge_response reply late
-  response-says Missing k = tt
-  response-says (Code code) k = go (answerable v.places h.source h.thread)
+  response-says None k = tt
+  response-says (Some code) k = go (answerable v.places h.source h.thread)
     where
-      go : (o : Option Place) → Spoken h (Code code) (reply v.places o h code)
-      go none = split (some_of (owes_exactly h.source h.thread) v.places) (λ p. rw p (k, refl, refl)) (λ p. rw p tt)
-      go (some w) =
-          checks-are (Spoken h (Code code)) (reply_tests v.places w h) (Answered h.source h.destination h.thread code) (tt, (tt, tt))
+      go : (o : Option Place) → Spoken h (Some code) (reply v.places o h code)
+      go None = split (some_of (owes_exactly h.source h.thread) v.places) (λ p. rw p (k, refl, refl)) (λ p. rw p tt)
+      go (Some w) =
+          checks-are (Spoken h (Some code)) (reply_tests v.places w h) (Answered h.source h.destination h.thread code) (tt, (tt, tt))
           (λ _. (k, refl, refl, refl, refl))
 
-  command-says : (code : Coded) → Spoken h code (judge_command v h)
+  command-says : (code : Option ℕ) → Spoken h code (judge_command v h)
   command-says code = command-is v h (Spoken h code) (λ k r. (refl, refl, refl)) (λ n. (refl, refl, refl, refl))
 
-  kind-says : (code : Coded) → Spoken h code (judge_kind v h code)
+  kind-says : (code : Option ℕ) → Spoken h code (judge_kind v h code)
   unfolding judge_kind
   kind-says code =
       split (eqb h.kind response) (λ p. rw p (response-says code (eqb-true h.kind response p)))
@@ -52,14 +48,14 @@ module _ (v : View) (h : Head) where
       (λ q. rw q (split (opened_at event_handler v.rows) (λ b. rw b q) (λ b. rw b tt)))
       (λ q. rw q (command-says code))))
 
-read-says : (v : View) (r : Reading) (code : Coded) → ReadSays r code (judge_read v r code)
+read-says : (v : View) (r : Result Head Refusal) (code : Option ℕ) → ReadSays r code (judge_read v r code)
 unfolding judge_read
-read-says v (Unread r) code = refl
-read-says v (Message h) code = checks-are (Spoken h code) (common_tests v.rows h) (judge_kind v h code) (tt, (tt, tt)) (λ _. kind-says v h code)
+read-says v (Err r) code = refl
+read-says v (Ok h) code = checks-are (Spoken h code) (common_tests v.rows h) (judge_kind v h code) (tt, (tt, tt)) (λ _. kind-says v h code)
 
-refused_says : (r : Reading) (code : Coded) (k : Refusal) → ReadSays r code (Refused k)
-refused_says (Unread r) code k = refl
-refused_says (Message h) code k = tt
+refused_says : (r : Result Head Refusal) (code : Option ℕ) (k : Refusal) → ReadSays r code (Refused k)
+refused_says (Err r) code k = refl
+refused_says (Ok h) code k = tt
 
 message-says : (v : View) (room : ℕ) (s : List ℕ) → Says (message s) (judge_message v room s)
 unfolding judge_message
@@ -70,8 +66,8 @@ message-says v room s =
 
 yields-says : (places : List Place) (o : Option Place) (t a : ℕ) → GivesUp t a (yields places o t a)
 unfolding yields
-yields-says places none t a = inl refl
-yields-says places (some w) t a = split (holding places a t) (λ p. rw p (inl refl)) (λ p. rw p (inr (w.asker, refl)))
+yields-says places None t a = inl refl
+yields-says places (Some w) t a = split (holding places a t) (λ p. rw p (inl refl)) (λ p. rw p (inr (w.asker, refl)))
 
 give-up-says : (v : View) (room t a : ℕ) → GivesUp t a (judge_give_up v room t a)
 unfolding judge_give_up

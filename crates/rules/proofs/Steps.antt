@@ -1,11 +1,11 @@
 -- What `judge` decides, one law for each way that a call can go. The code is held to the rules by these: a new check is one entry of the rules and
 -- one law here. A law that speaks of what a function answered takes it by name, with the equation that says what it is.
 use Prim.Native.Nat.{ℕ, ◌≤◌, ◌<◌}
+use Rattle.std.specs.Prelude.{Some, None, Result, Ok, Err, Option}
 use mathlib.Core.Path.{◌≡◌, refl, ap, ◌∙◌}
 use mathlib.Core.Logic.{inl, inr}
 use mathlib.Core.Bool.{true, false, and-false}
 use mathlib.Core.List.{List}
-use mathlib.Core.Option.{Option, none, some}
 use borrow.Author.Tests.{lt-ltb, le-ltb, eq-eqb, ne_eqb, not-false}
 use Rattle.lists.specs.Lists.{checks, some_of, In}
 use Rattle.lists.proofs.Tests.{checks-are}
@@ -15,10 +15,6 @@ use Rattle.known_types.specs.Types.{known}
 use Rattle.tapa.specs.declared.Refusal.{Refusal}
 use Rattle.tapa.specs.declared.Refusal.TheVariants.{NotInTable, ThreadAbove7, NoResponseCode, StrayResponse, WrongAsker, BufferTooSmall, EventCannotBeTaken, NothingToGiveUp, StandsInAWait, HoldsAQuestion}
 use Rattle.message.specs.declared.Head.{Head}
-use Rattle.message.specs.declared.Reading.{Reading}
-use Rattle.message.specs.declared.Reading.TheVariants.{Message, Refused as Unread}
-use Rattle.message.specs.declared.Coded.{Coded}
-use Rattle.message.specs.declared.Coded.TheVariants.{Code, Missing}
 use Rattle.message.specs.Message.{read_of, part_of, code_of}
 use Rattle.table.specs.declared.Row.{Row}
 use Rattle.table.specs.Table.{listed, opened_at}
@@ -36,19 +32,19 @@ module _ (v : View) (room : ℕ) (s : List ℕ) where
   unfolding judge_message
   message-small l = rw (lt-ltb room 10 l)
 
-  module _ (enough : 10 ≤ room) (r : Reading) (e : r ≡ read_of s) where
+  module _ (enough : 10 ≤ room) (r : Result Head Refusal) (e : r ≡ read_of s) where
     reads_on : judge_message v room s ≡ judge_read v r (code_of (part_of s))
     unfolding judge_message
     reads_on = rw (le-ltb room 10 enough, e)
 
-    pub message-unread : (z : Refusal) → r ≡ Unread z → judge_message v room s ≡ Refused z
+    pub message-unread : (z : Refusal) → r ≡ Err z → judge_message v room s ≡ Refused z
     unfolding judge_read
-    message-unread z q = reads_on ∙ ap (λ (x : Reading). judge_read v x (code_of (part_of s))) q
+    message-unread z q = reads_on ∙ ap (λ (x : Result Head Refusal). judge_read v x (code_of (part_of s))) q
 
-    module _ (h : Head) (q : r ≡ Message h) where
+    module _ (h : Head) (q : r ≡ Ok h) where
       message-read : judge_message v room s ≡ checks (common_tests v.rows h) (judge_kind v h (code_of (part_of s)))
       unfolding judge_read
-      message-read = reads_on ∙ ap (λ (x : Reading). judge_read v x (code_of (part_of s))) q
+      message-read = reads_on ∙ ap (λ (x : Result Head Refusal). judge_read v x (code_of (part_of s))) q
 
       pub message-unlisted : listed (handler_of h.source) v.rows ≡ false → judge_message v room s ≡ Refused NotInTable
       message-unlisted n = message-read ∙ rw n
@@ -61,7 +57,7 @@ module _ (v : View) (room : ℕ) (s : List ℕ) where
         message-kind l = message-read ∙ rw (y, le-ltb 7 h.thread l)
 
 -- ---- a message, by its type
-module _ (v : View) (h : Head) (code : Coded) where
+module _ (v : View) (h : Head) (code : Option ℕ) where
   pub kind-response : h.kind ≡ response → judge_kind v h code ≡ judge_response v.places h code
   unfolding judge_kind
   kind-response e = rw (eq-eqb h.kind response e)
@@ -158,18 +154,18 @@ module _ (places : List Place) (h : Head) where
   unfolding late
   late-stray e = rw e
 
-  module _ (coded : Coded) where
-    pub response-missing : coded ≡ Missing → judge_response places h coded ≡ Refused NoResponseCode
+  module _ (coded : Option ℕ) where
+    pub response-missing : coded ≡ None → judge_response places h coded ≡ Refused NoResponseCode
     unfolding judge_response
     response-missing e = ap (judge_response places h) e
 
-    module _ (code : ℕ) (e : coded ≡ Code code) where
+    module _ (code : ℕ) (e : coded ≡ Some code) where
       -- no wait of the thread asks exactly this address
-      pub response-late : answerable places h.source h.thread ≡ none → judge_response places h coded ≡ late places h
+      pub response-late : answerable places h.source h.thread ≡ None → judge_response places h coded ≡ late places h
       unfolding judge_response reply
       response-late f = ap (judge_response places h) e ∙ ap (λ (o : Option Place). reply places o h code) f
 
-      module _ (w : Place) (f : answerable places h.source h.thread ≡ some w) where
+      module _ (w : Place) (f : answerable places h.source h.thread ≡ Some w) where
         replied : judge_response places h coded ≡ checks (reply_tests places w h) (Answered h.source h.destination h.thread code)
         unfolding judge_response reply
         replied = ap (judge_response places h) e ∙ ap (λ (o : Option Place). reply places o h code) f
@@ -196,11 +192,11 @@ module _ (v : View) (room t a : ℕ) where
     give-up-thread l = rw (le-ltb room 10 enough, lt-ltb 7 t l)
 
     module _ (l : t ≤ 7) where
-      pub give-up-none : answerable v.places a t ≡ none → judge_give_up v room t a ≡ Refused NothingToGiveUp
+      pub give-up-none : answerable v.places a t ≡ None → judge_give_up v room t a ≡ Refused NothingToGiveUp
       unfolding judge_give_up yields
       give-up-none e = rw (le-ltb room 10 enough, le-ltb 7 t l, e)
 
-      module _ (w : Place) (e : answerable v.places a t ≡ some w) where
+      module _ (w : Place) (e : answerable v.places a t ≡ Some w) where
         pub give-up-holding : holding v.places a t ≡ true → judge_give_up v room t a ≡ Refused HoldsAQuestion
         unfolding judge_give_up yields
         give-up-holding b = rw (le-ltb room 10 enough, le-ltb 7 t l, e, b)

@@ -1,5 +1,6 @@
 -- The page's session, a wrong turning, and the sums at the desk C5 and C11, computed by the definitions.
 use Prim.Native.Nat.{ℕ, ◌≤◌}
+use Rattle.std.specs.Prelude.{Ok}
 use mathlib.Core.Path.{◌≡◌, refl}
 use mathlib.Core.Bool.{Bool, true, false}
 use mathlib.Core.List.{List, [], ◌∷◌}
@@ -10,7 +11,6 @@ use Rattle.known_types.specs.Types.{own, common}
 use Rattle.tapa.specs.Codes.{must_be_opened}
 use Rattle.tapa.specs.declared.Refusal.TheVariants.{ThreadAbove7, StrayResponse}
 use Rattle.message.specs.declared.Head.{Head}
-use Rattle.message.specs.declared.Reading.TheVariants.{Message}
 use Rattle.message.specs.Message.{read_of, part_of, code_of, message_of, response_of}
 use Rattle.table.specs.declared.Row.{Row}
 use Rattle.table.specs.Table.{listed}
@@ -121,6 +121,6 @@ c5 = record { outcome = refl; reply = λ buffer. refl }
 
 -- ---- 'C11 thread 8: 5.': for every message from a handler of the table, in every view
 
-pub c11 : (v : View) (room : ℕ) (s : List ℕ) (h : Head) → 10 ≤ room → read_of s ≡ Message h → listed (handler_of h.source) v.rows ≡ true → h.thread ≡ 8
+pub c11 : (v : View) (room : ℕ) (s : List ℕ) (h : Head) → 10 ≤ room → read_of s ≡ Ok h → listed (handler_of h.source) v.rows ≡ true → h.thread ≡ 8
     → judge v room (message s) ≡ Refused ThreadAbove7
 c11 v room s h enough e y t = message-thread v room s enough (read_of s) refl h e y (omega arith)

@@ -1,9 +1,9 @@
 -- A thread's tree, and that a passed command and an ended wait keep it.
 use Prim.Native.Nat.{ℕ}
+use Rattle.std.specs.Prelude.{Some}
 use mathlib.Core.Path.{◌≡◌, refl, sym}
 use mathlib.Core.Bool.{Bool, true, false, ◌&&◌, or-true}
 use mathlib.Core.List.{List, [], ◌∷◌}
-use mathlib.Core.Option.{some}
 use lib.Dec.{eqb}
 use borrow.Author.Tests.{eqb-true, eq-eqb}
 use Rattle.lists.specs.Lists.{some_of, first, without}
@@ -61,14 +61,14 @@ module _ (r t : ℕ) where
       rw (o, k, z)))
 
   -- a wait whose asked handler holds no question on its thread can be taken out
-  grown-without : (q : Place → Bool) (l : List Place) (x : Place) → first q l ≡ some x → some_of (holds_on x.thread (handler_of x.asked)) l ≡ false
+  grown-without : (q : Place → Bool) (l : List Place) (x : Place) → first q l ≡ Some x → some_of (holds_on x.thread (handler_of x.asked)) l ≡ false
       → Grown r t l → Grown r t (without q l)
   grown-without q [] x f n g = tt
   grown-without q (p ∷ l) x f n g =
       split (q p) (λ b. rw b g.1)
       (λ b.
       let m = or_no (holds_on x.thread (handler_of x.asked) p) (some_of (holds_on x.thread (handler_of x.asked)) l) n in
-      let f' : first q l ≡ some x = rw b at f in
+      let f' : first q l ≡ Some x = rw b at f in
       rw b (
         λ o.
             let other : asked_on t (handler_of p.asker) x ≡ false =
@@ -98,12 +98,12 @@ module _ (r t : ℕ) where
       rw not-it (outside-holds h l g.1 n')
 
   -- and so the handler that the newest wait asks holds none
-  newest-leaf : (l : List Place) (x : Place) → first (open_on t) l ≡ some x → Grown r t l → some_of (holds_on t (handler_of x.asked)) l ≡ false
+  newest-leaf : (l : List Place) (x : Place) → first (open_on t) l ≡ Some x → Grown r t l → some_of (holds_on t (handler_of x.asked)) l ≡ false
   newest-leaf [] x e g = refl
   newest-leaf (p ∷ l) x e g =
       split (open_on t p)
       (λ b.
-      let k : p ≡ x = (let f : some p ≡ some x = rw b at e in cc) in
+      let k : p ≡ x = (let f : Some p ≡ Some x = rw b at e in cc) in
       let n : grown_in r t (handler_of x.asked) l ≡ false = rw k at (g.0 b).1 in
       let not-it : holds_on t (handler_of x.asked) p ≡ false = split (holds_on t (handler_of x.asked) p)
       (λ q. let y = and_yes (open_on t p) (eqb (handler_of p.asker) (handler_of x.asked)) q in
@@ -150,7 +150,7 @@ tree-passed t l p may not_in ne g =
     (λ o. record { root = g.root; driver = g.driver; grown = (λ q. clash (open_on t p) q o, g.grown) })
 
 -- the wait of thread t that asks exactly a, taken out where its handler holds no question: every thread's tree stands
-pub tree-ended : (u t a : ℕ) (l : List Place) (x : Place) → first (asks_exactly a t) l ≡ some x → holding l a t ≡ false
+pub tree-ended : (u t a : ℕ) (l : List Place) (x : Place) → first (asks_exactly a t) l ≡ Some x → holding l a t ≡ false
     → Tree u l → Tree u (without (asks_exactly a t) l)
 tree-ended u t a l x f n g =
     let y = and_yes (open_on t x) (eqb x.asked a) (first-yes (asks_exactly a t) l x f) in
@@ -162,5 +162,5 @@ tree-ended u t a l x f n g =
     }
 
 -- the newest wait of a thread is a leaf: whoever gives up the newest first meets no question that is held
-pub newest-holds-none : (t : ℕ) (l : List Place) (x : Place) → Tree t l → first (open_on t) l ≡ some x → holding l x.asked t ≡ false
+pub newest-holds-none : (t : ℕ) (l : List Place) (x : Place) → Tree t l → first (open_on t) l ≡ Some x → holding l x.asked t ≡ false
 newest-holds-none t l x g e = newest-leaf (handler_of g.root) t l x e g.grown

@@ -1,16 +1,14 @@
 -- What an outcome leaves as it was.
 use Prim.Native.Nat.{ℕ}
+use Rattle.std.specs.Prelude.{Some, None, Option}
 use mathlib.Core.Path.{◌≡◌, refl}
 use mathlib.Core.List.{List, []}
-use mathlib.Core.Option.{Option, none, some}
 use lib.Dec.{eqb, ltb}
 use lib.ListN.{take}
 use Rattle.lists.specs.Lists.{some_of}
 use Rattle.lists.proofs.Tests.{split}
 use Rattle.tapa.specs.declared.Refusal.{Refusal}
 use Rattle.message.specs.declared.Head.{Head}
-use Rattle.message.specs.declared.Coded.{Coded}
-use Rattle.message.specs.declared.Coded.TheVariants.{Code, Missing}
 use Rattle.place.specs.declared.Place.{Place}
 use Rattle.places.specs.Places.{owes_exactly, holding}
 use Rattle.rules.specs.View.{View}
@@ -91,20 +89,20 @@ give-up-rows v room t a =
     (λ p. rw p (split (ltb 7 t) (λ q. rw q) (λ q. rw q (go (answerable v.places a t)))))
   where
     go : (o : Option Place) → v.rows ≡ rows_after (yields v.places o t a) v
-    go none = refl
-    go (some w) = split (holding v.places a t) (λ p. rw p) (λ p. rw p)
+    go None = refl
+    go (Some w) = split (holding v.places a t) (λ p. rw p) (λ p. rw p)
 
 -- a response writes nothing
-pub response-writes : (places : List Place) (h : Head) (coded : Coded) (buffer : List ℕ) → buffer ≡ written (judge_response places h coded) buffer
+pub response-writes : (places : List Place) (h : Head) (coded : Option ℕ) (buffer : List ℕ) → buffer ≡ written (judge_response places h coded) buffer
 unfolding judge_response reply late
 response-writes places h coded buffer = go coded
   where
     goes : (o : Option Place) (code : ℕ) → buffer ≡ written (reply places o h code) buffer
-    goes none code = split (some_of (owes_exactly h.source h.thread) places) (λ p. rw p) (λ p. rw p)
-    goes (some w) code =
+    goes None code = split (some_of (owes_exactly h.source h.thread) places) (λ p. rw p) (λ p. rw p)
+    goes (Some w) code =
         split (holding places h.source h.thread) (λ b. rw b)
         (λ b. rw b (split (eqb w.asker h.destination) (λ p. rw p) (λ p. rw p)))
 
-    go : (k : Coded) → buffer ≡ written (judge_response places h k) buffer
-    go Missing = refl
-    go (Code code) = goes (answerable places h.source h.thread) code
+    go : (k : Option ℕ) → buffer ≡ written (judge_response places h k) buffer
+    go None = refl
+    go (Some code) = goes (answerable places h.source h.thread) code

@@ -1,6 +1,5 @@
 -- Routing one message: what an outcome does to the view and to the reply buffer, and what is to be sent. Nothing is decided here.
-use Rattle.std.specs.Prelude.{ℕ, true, false, ◌&&◌, cond, List, [], ◌∷◌, eqb, take}
-use Rattle.std.proofs.Math.Option.{Option, none, some}
+use Rattle.std.specs.Prelude.{ℕ, true, false, ◌&&◌, cond, List, [], ◌∷◌, eqb, take, Option, Some, None}
 use Rattle.lists.specs.Lists.{keep, first, without, changed, onto}
 use Rattle.tapa.specs.Address.{handler_of}
 use Rattle.tapa.specs.Codes.{successful, handler_error, open_handler, close_handler}
@@ -20,8 +19,8 @@ place asker asked kind thread = record { asker = asker; asked = asked; kind = ki
 
 -- 'If it was Open Handler or Close Handler and the code is '0000', the handler becomes open or closed.'
 unfoldable pub answered_rows : Option Place → (code : ℕ) → List Row → List Row
-answered_rows none k rows = rows
-answered_rows (some w) k rows =
+answered_rows None k rows = rows
+answered_rows (Some w) k rows =
     cond (eqb k successful && eqb w.kind open_handler)
     (set_opened (handler_of w.asked) true rows)
     (cond (eqb k successful && eqb w.kind close_handler) (set_opened (handler_of w.asked) false rows) rows)

@@ -1,16 +1,12 @@
 -- Routing one message: which outcome a call has. Nothing is changed here.
-use Rattle.std.specs.Prelude.{ℕ, Bool, not, ◌&&◌, ◌||◌, cond, List, [], ◌∷◌, eqb, ltb}
-use Rattle.std.proofs.Math.Option.{Option, none, some}
+use Rattle.std.specs.Prelude.{ℕ, Bool, not, ◌&&◌, ◌||◌, cond, List, [], ◌∷◌, eqb, ltb, Some, None, Result, Ok, Err, Option}
+use Rattle.tapa.specs.declared.Refusal.{Refusal}
 use Rattle.lists.specs.Lists.{checks, some_of, first}
 use Rattle.tapa.specs.Address.{category_of, handler_of, till_driver}
 use Rattle.tapa.specs.Codes.{invalid_destination, handler_error, handler_busy, must_be_opened, unsupported_operation, response, add_event, open_handler, event_handler}
 use Rattle.known_types.specs.Types.{known}
 use Rattle.tapa.specs.declared.Refusal.TheVariants.{NotInTable, ThreadAbove7, NoResponseCode, StrayResponse, WrongAsker, BufferTooSmall, EventCannotBeTaken, NothingToGiveUp, StandsInAWait, HoldsAQuestion}
 use Rattle.message.specs.declared.Head.{Head}
-use Rattle.message.specs.declared.Reading.{Reading}
-use Rattle.message.specs.declared.Reading.TheVariants.{Message, Refused as Unread}
-use Rattle.message.specs.declared.Coded.{Coded}
-use Rattle.message.specs.declared.Coded.TheVariants.{Code, Missing}
 use Rattle.message.specs.Message.{read_of, part_of, code_of}
 use Rattle.table.specs.declared.Row.{Row}
 use Rattle.table.specs.Table.{listed, opened_at}
@@ -39,13 +35,13 @@ unfoldable pub late : List Place → Head → Outcome
 late places h = cond (some_of (owes_exactly h.source h.thread) places) (Swallowed h.source h.thread) (Refused StrayResponse)
 
 unfoldable pub reply : List Place → Option Place → Head → ℕ → Outcome
-reply places none h code = late places h
-reply places (some w) h code = checks (reply_tests places w h) (Answered h.source h.destination h.thread code)
+reply places None h code = late places h
+reply places (Some w) h code = checks (reply_tests places w h) (Answered h.source h.destination h.thread code)
 
 -- 'Data length under 2 (6).'
-unfoldable pub judge_response : List Place → Head → Coded → Outcome
-judge_response places h Missing = Refused NoResponseCode
-judge_response places h (Code code) = reply places (answerable places h.source h.thread) h code
+unfoldable pub judge_response : List Place → Head → Option ℕ → Outcome
+judge_response places h None = Refused NoResponseCode
+judge_response places h (Some code) = reply places (answerable places h.source h.thread) h code
 
 -- ---- Type 'C0' to handler '0700'
 
@@ -95,15 +91,15 @@ judge_command v h = checks (rules v h) (Passed h.source h.destination h.kind h.t
 abbrev pub common_tests : List Row → Head → List (Bool × Outcome)
 common_tests rows h = (not (listed (handler_of h.source) rows), Refused NotInTable) ∷ (ltb 7 h.thread, Refused ThreadAbove7) ∷ []
 
-unfoldable pub judge_kind : View → Head → Coded → Outcome
+unfoldable pub judge_kind : View → Head → Option ℕ → Outcome
 judge_kind v h code =
     cond (eqb h.kind response)
     (judge_response v.places h code)
     (cond (is_add_event h) (judge_event v.rows) (judge_command v h))
 
-unfoldable pub judge_read : View → Reading → Coded → Outcome
-judge_read v (Unread r) code = Refused r
-judge_read v (Message h) code = checks (common_tests v.rows h) (judge_kind v h code)
+unfoldable pub judge_read : View → Result Head Refusal → Option ℕ → Outcome
+judge_read v (Err r) code = Refused r
+judge_read v (Ok h) code = checks (common_tests v.rows h) (judge_kind v h code)
 
 -- 'Common checks, in order: reply buffer under 10 bytes (9)', then the reader's own, 1, 2, 3 and 19
 unfoldable pub judge_message : View → (room : ℕ) → List ℕ → Outcome
@@ -113,8 +109,8 @@ judge_message v room s = checks ((ltb room 10, Refused BufferTooSmall) ∷ []) (
 
 -- 'give up of an address with no wait is 14; of one that still holds a question on that thread is 20, after 14'
 unfoldable pub yields : List Place → Option Place → (thread address : ℕ) → Outcome
-yields places none t a = Refused NothingToGiveUp
-yields places (some w) t a = checks ((holding places a t, Refused HoldsAQuestion) ∷ []) (Given w.asker a t)
+yields places None t a = Refused NothingToGiveUp
+yields places (Some w) t a = checks ((holding places a t, Refused HoldsAQuestion) ∷ []) (Given w.asker a t)
 
 -- 'Give up takes a thread and an exact asked address': 9, 5, then 14, 20
 unfoldable pub judge_give_up : View → (room thread address : ℕ) → Outcome

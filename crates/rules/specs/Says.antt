@@ -1,12 +1,9 @@
 -- What an outcome says of its call: the addresses, the type and the thread that it carries are those of the call.
-use Rattle.std.specs.Prelude.{ℕ, ◌≡◌, ◌⊎◌, true}
+use Rattle.std.specs.Prelude.{ℕ, ◌≡◌, ◌⊎◌, true, Option, Some, Result, Ok, Err}
+use Rattle.tapa.specs.declared.Refusal.{Refusal}
 use Rattle.tapa.specs.Address.{handler_of}
 use Rattle.tapa.specs.Codes.{response}
 use Rattle.message.specs.declared.Head.{Head}
-use Rattle.message.specs.declared.Reading.{Reading}
-use Rattle.message.specs.declared.Reading.TheVariants.{Message, Refused as Unread}
-use Rattle.message.specs.declared.Coded.{Coded}
-use Rattle.message.specs.declared.Coded.TheVariants.{Code}
 use Rattle.message.specs.Message.{read_of, part_of, code_of}
 use Rattle.rules.specs.declared.Outcome.{Outcome}
 use Rattle.rules.specs.declared.Outcome.TheVariants.{Passed, Answered, Swallowed, Event, Turned, Given, Reset, Refused}
@@ -14,9 +11,9 @@ use Rattle.rules.specs.Said.{is_refused}
 use Rattle.rules.specs.Judge.{is_add_event, Call, message, give_up, replaced}
 
 -- what a message with this head and this code can come to
-abbrev pub Spoken : Head → Coded → Outcome → Type 0
+abbrev pub Spoken : Head → Option ℕ → Outcome → Type 0
 Spoken h code (Passed asker asked kind t) = (h.source ≡ asker) × (h.destination ≡ asked) × (h.kind ≡ kind) × (h.thread ≡ t)
-Spoken h code (Answered asked asker t k) = (h.kind ≡ response) × (h.source ≡ asked) × (h.destination ≡ asker) × (h.thread ≡ t) × (code ≡ Code k)
+Spoken h code (Answered asked asker t k) = (h.kind ≡ response) × (h.source ≡ asked) × (h.destination ≡ asker) × (h.thread ≡ t) × (code ≡ Some k)
 Spoken h code (Swallowed asked t) = (h.kind ≡ response) × (h.source ≡ asked) × (h.thread ≡ t)
 Spoken h code Event = is_add_event h ≡ true
 Spoken h code (Turned asker asked t k) = (h.source ≡ asker) × (h.destination ≡ asked) × (h.thread ≡ t)
@@ -25,9 +22,9 @@ Spoken h code (Reset a) = ⊥
 Spoken h code (Refused r) = Unit {0}
 
 -- bytes that are no message come to a refusal
-abbrev pub ReadSays : Reading → Coded → Outcome → Type 0
-ReadSays (Message h) code o = Spoken h code o
-ReadSays (Unread r) code o = is_refused o ≡ true
+abbrev pub ReadSays : Result Head Refusal → Option ℕ → Outcome → Type 0
+ReadSays (Ok h) code o = Spoken h code o
+ReadSays (Err r) code o = is_refused o ≡ true
 
 -- a give up of the address a on thread t is refused, or gives up a wait of exactly that address on that thread
 abbrev pub GivesUp : ℕ → ℕ → Outcome → Type 0

@@ -1,5 +1,7 @@
 -- The rows: the state before the first item leaves all that the input has, and is lawful. Assumes nothing.
 use Prim.Native.Nat.{ℕ, zero, suc, ◌+◌, ◌≤◌, ◌<◌}
+use Rattle.tapa.specs.declared.Refusal.{Refusal}
+use Rattle.std.specs.Prelude.{Result, Ok, Err, ⊤}
 use mathlib.Core.Path.{◌≡◌, refl, sym, ap, subst, ◌∙◌}
 use mathlib.Core.Bool.{Bool, true, false}
 use mathlib.Core.List.{List, [], ◌∷◌, ◌++◌, reverse, reverse-append}
@@ -10,8 +12,6 @@ use borrow.Table.Steps.{cases}
 use borrow.Author.Tests.{lt-ltb, le-ltb, ltb-false}
 use Rattle.table.specs.declared.Row as table
 use Rattle.table.specs.declared.Rows.{Rows}
-use Rattle.table.specs.declared.Checked.{Checked}
-use Rattle.table.specs.declared.Checked.TheVariants.{Accepted, Refused}
 use Rattle.table.specs.Table.{held_rows, Held, no_rows, with_row, rows_read, judge_table, judge_rows}
 use Rattle.table.proofs.Judged.{accepted, judge-reverse, none-proper}
 use Rattle.table.proofs.Read.{none-held, with-held, read_held, read-rows, read_next, judge-read}
@@ -71,10 +71,10 @@ rows-held s x e = subst (λ (y : Heading). Held y.rows) (sym e) (heading-held (s
 
 -- ---- the returns of `stage_after` and `started`
 
-pub stage-torn : (b : Bool) (n : ℕ) (k : Checked) → b ≡ true → Settled (Broken n) ≡ stage_of b n k
+pub stage-torn : (b : Bool) (n : ℕ) (k : Result ⊤ Refusal) → b ≡ true → Settled (Broken n) ≡ stage_of b n k
 stage-torn b n k e = rw e
 
-pub stage-checked : (b : Bool) (n : ℕ) (k found : Checked) → b ≡ false → k ≡ found → checked_stage found ≡ stage_of b n k
+pub stage-checked : (b : Bool) (n : ℕ) (k found : Result ⊤ Refusal) → b ≡ false → k ≡ found → checked_stage found ≡ stage_of b n k
 stage-checked b n k found e f = rw (e, f)
 
 pub starts : (x : Heading) (d : Started) (g : Stage) → d ≡ start_with x.rows → g ≡ stage_of x.torn x.number d.answer
@@ -100,35 +100,35 @@ sound-at at n g a b c = record {
   settled = c;
 }
 
-small-checked : (k : Checked) → SettledIn (checked_stage k)
-small-checked Accepted = tt
-small-checked (Refused r) = tt
+small-checked : (k : Result ⊤ Refusal) → SettledIn (checked_stage k)
+small-checked (Ok tt) = tt
+small-checked (Err r) = tt
 
 -- zs are the rows read so far, in order
 module _ (s : List ℕ) (fit : length s ≤ 65536) where
-  checked-left : (t : Rows) (at n : ℕ) (k : Checked) → judge_rows t ≡ k
+  checked-left : (t : Rows) (at n : ℕ) (k : Result ⊤ Refusal) → judge_rows t ≡ k
       → items_left s (view_of (start_with t).router) (cursor_at at n (checked_stage k)) ≡ checked_items k (held_rows t) (steps_at s n at)
   unfolding items_left
-  checked-left t at n Accepted e =
+  checked-left t at n (Ok tt) e =
       rw (le-ltb 65536 (length s) fit)
       (ap (λ (v : View). items_from v no_tally 1 (steps_at s n at)) (start-view t e)
       ∙ same-items (held_rows t) [] no_tally 1 (steps_at s n at) (record { accepted = refl; answered = refl; given = refl }))
-  checked-left t at n (Refused r) e = refl
+  checked-left t at n (Err r) e = refl
 
   -- a refused table looks at no row
-  checked-same : (k : Checked) (zs : List table.Row) (m : Steps) → judge_table zs ≡ k
+  checked-same : (k : Result ⊤ Refusal) (zs : List table.Row) (m : Steps) → judge_table zs ≡ k
       → checked_items k (held_rows (rows_read zs)) m ≡ checked_items k (reverse zs) m
-  checked-same Accepted zs m e = ap (λ (rows : List table.Row). items_of rows [] 1 m) (read-rows zs (accepted zs e).few)
-  checked-same (Refused r) zs m e = refl
+  checked-same (Ok tt) zs m e = ap (λ (rows : List table.Row). items_of rows [] 1 m) (read-rows zs (accepted zs e).few)
+  checked-same (Err r) zs m e = refl
 
   over-left : (zs : List table.Row) (at n : ℕ)
       → items_left s (view_of (start_with (rows_read zs)).router) (cursor_at at n (checked_stage (judge_rows (rows_read zs))))
       ≡ checked_items (judge_table (reverse zs)) (reverse zs) (steps_at s n at)
   over-left zs at n =
       checked-left (rows_read zs) at n (judge_rows (rows_read zs)) refl
-      ∙ (ap (λ (k : Checked). checked_items k (held_rows (rows_read zs)) (steps_at s n at)) (judge-read zs)
+      ∙ (ap (λ (k : Result ⊤ Refusal). checked_items k (held_rows (rows_read zs)) (steps_at s n at)) (judge-read zs)
       ∙ (checked-same (judge_table zs) zs (steps_at s n at) refl
-      ∙ ap (λ (k : Checked). checked_items k (reverse zs) (steps_at s n at)) (sym (judge-reverse zs))))
+      ∙ ap (λ (k : Result ⊤ Refusal). checked_items k (reverse zs) (steps_at s n at)) (sym (judge-reverse zs))))
 
   rows_in : (zs : List table.Row) (n at : ℕ) (i : NextRow)
       → RowInside s at i

@@ -1,8 +1,7 @@
 -- The session program without its text: the steps of an input with their outcomes, and how it ends.
-use Rattle.std.specs.Prelude.{ℕ, ◌+◌, cond, List, [], ◌∷◌, ltb, length, replicate}
+use Rattle.std.specs.Prelude.{ℕ, ◌+◌, cond, List, [], ◌∷◌, ltb, length, replicate, Result, Ok, Err, ⊤}
+use Rattle.tapa.specs.declared.Refusal.{Refusal}
 use Rattle.table.specs.declared.Row.{Row}
-use Rattle.table.specs.declared.Checked.{Checked}
-use Rattle.table.specs.declared.Checked.TheVariants.{Accepted, Refused as RefusedTable}
 use Rattle.table.specs.Table.{judge_table}
 use Rattle.rules.specs.View.{View}
 use Rattle.rules.specs.Judge.{Call, message as message_call, give_up, replaced as replaced_call, judge}
@@ -67,9 +66,9 @@ items_of rows past k (then st m) = Came k (outcome_of (history.view_after rows p
 -- ---- the rows, the last one first, and then the steps
 
 -- 'A refused table prints `table refused N` and ends'
-abbrev pub checked_items : Checked → List Row → Steps → List Item
-checked_items Accepted rows m = items_of rows [] 1 m
-checked_items (RefusedTable r) rows m = Refused r ∷ []
+abbrev pub checked_items : Result ⊤ Refusal → List Row → Steps → List Item
+checked_items (Ok tt) rows m = items_of rows [] 1 m
+checked_items (Err r) rows m = Refused r ∷ []
 
 abbrev pub script_items : List Row → Script → List Item
 script_items rows (torn n) = Broken n ∷ []

@@ -1,8 +1,7 @@
 -- The state before the first item. 'The table is checked before the first later field is judged, or at the end; a broken row comes before that.'
-use Rattle.std.specs.Prelude.{ℕ, ◌+◌, ◌≡◌, Bool, true, false, cond, List, ltb, length}
+use Rattle.std.specs.Prelude.{ℕ, ◌+◌, ◌≡◌, Bool, true, false, cond, List, ltb, length, Result, Ok, Err, ⊤}
+use Rattle.tapa.specs.declared.Refusal.{Refusal}
 use Rattle.table.specs.declared.Rows.{Rows}
-use Rattle.table.specs.declared.Checked.{Checked}
-use Rattle.table.specs.declared.Checked.TheVariants.{Accepted, Refused as RefusedTable}
 use Rattle.table.specs.Table.{no_rows, with_row, judge_rows}
 use Rattle.start.specs.Start.{blank, start_with}
 use Rattle.fields.specs.Fields.{Script, torn, begins, row-then}
@@ -25,11 +24,11 @@ heading_by t n at (row-then a o m) = heading_by (with_row t (record { address = 
 unfoldable pub heading_of : List ℕ → Heading
 heading_of s = heading_by no_rows 1 0 (script_at s 1 0)
 
-abbrev pub checked_stage : Checked → Stage
-checked_stage Accepted = steps
-checked_stage (RefusedTable r) = Settled (Refused r)
+abbrev pub checked_stage : Result ⊤ Refusal → Stage
+checked_stage (Ok tt) = steps
+checked_stage (Err r) = Settled (Refused r)
 
-abbrev pub stage_of : Bool → (number : ℕ) → Checked → Stage
+abbrev pub stage_of : Bool → (number : ℕ) → Result ⊤ Refusal → Stage
 stage_of b n k = cond b (Settled (Broken n)) (checked_stage k)
 
 abbrev pub cursor_at : (at number : ℕ) → Stage → Cursor

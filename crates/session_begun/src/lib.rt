@@ -11,7 +11,8 @@ ghost use Rattle.run.specs.Start.{heading_of, stage_of, started_by, Begins};
 
 use fields::NextRow;
 use run::{Cursor, Heading, Item, Session, Stage, Tally};
-use table::{Checked, Row};
+use table::Row;
+use tapa::Refusal;
 
 // ---- the rows
 
@@ -57,15 +58,15 @@ fn read_rows(input: &[u8]) -> Heading
 // ---- the state before the first item
 
 // A broken row comes before the table is checked.
-fn stage_after(torn: bool, number: usize, answer: Checked) -> Stage
+fn stage_after(torn: bool, number: usize, answer: Result<(), Refusal>) -> Stage
     ensures { result ≡ stage_of torn number answer }
 {
     if torn {
         return Stage::Settled(Item::Broken(number));
     }
     match answer {
-        Checked::Refused(refusal) => Stage::Settled(Item::Refused(refusal)),
-        Checked::Accepted => Stage::Steps,
+        Err(refusal) => Stage::Settled(Item::Refused(refusal)),
+        Ok(()) => Stage::Steps,
     }
 }
 

@@ -15,14 +15,14 @@ ghost use Rattle.lists.specs.Lists.{some_of, count as count_of};
 ghost use Rattle.table.specs.Table.{Narrow, rows_of, shaped, misshapen, repeats, is_multi, judge_table, judge_rows, no_row, rows_read};
 ghost use Rattle.setup.specs.Setup.{set_up_with, set_up_of};
 
-use table::{Checked, Row, Rows};
+use table::{Row, Rows};
 use tapa::Refusal;
 
 // What set-up answers, and the rows of an accepted table; a refused one leaves none. Nobody makes one by
 // hand: `set_up`, `set_up_own` and `set_up_with` do.
 #[derive(Clone, Copy)]
 pub struct SetUp {
-    answer: Checked,
+    answer: Result<(), Refusal>,
     rows: Rows,
 }
 
@@ -71,33 +71,33 @@ fn multi_count(cells: &[u32; 16], count: usize) -> usize
 }
 
 // Whether the rows of a column are a table.
-fn check_column(cells: &[u32; 16], count: usize) -> Checked
+fn check_column(cells: &[u32; 16], count: usize) -> Result<(), Refusal>
     ensures { result ≡ judge_table (rows_of cells.now count) }
 {
     if count < 1 {
-        return Checked::Refused(Refusal::RowCountOrShape);
+        return Err(Refusal::RowCountOrShape);
     }
     if 16 < count {
-        return Checked::Refused(Refusal::RowCountOrShape);
+        return Err(Refusal::RowCountOrShape);
     }
     if has_misshapen(cells, count) {
-        return Checked::Refused(Refusal::RowCountOrShape);
+        return Err(Refusal::RowCountOrShape);
     }
     if has_repeats(cells, count) {
-        return Checked::Refused(Refusal::Repeat);
+        return Err(Refusal::Repeat);
     }
     if 4 < multi_count(cells, count) {
-        return Checked::Refused(Refusal::TooManyMulti);
+        return Err(Refusal::TooManyMulti);
     }
-    Checked::Accepted
+    Ok(())
 }
 
 // Whether these rows are a table. A row that found no cell is one too many.
-pub fn check(rows: Rows) -> Checked
+pub fn check(rows: Rows) -> Result<(), Refusal>
     ensures { result ≡ judge_rows rows }
 {
     if rows.more() {
-        return Checked::Refused(Refusal::RowCountOrShape);
+        return Err(Refusal::RowCountOrShape);
     }
     let cells = rows.cells();
     check_column(&cells, rows.count())
@@ -106,7 +106,7 @@ pub fn check(rows: Rows) -> Checked
 // ---- set-up
 
 impl SetUp {
-    pub fn answer(self) -> Checked
+    pub fn answer(self) -> Result<(), Refusal>
         ensures { result ≡ self.answer }
     {
         self.answer
@@ -125,8 +125,8 @@ pub fn set_up_with(rows: Rows) -> SetUp
 {
     let answer = check(rows);
     match answer {
-        Checked::Accepted => SetUp { answer, rows },
-        Checked::Refused(_) => SetUp {
+        Ok(()) => SetUp { answer, rows },
+        Err(_) => SetUp {
             answer,
             rows: table::no_rows(),
         },

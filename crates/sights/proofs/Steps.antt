@@ -1,5 +1,6 @@
 -- What the returns of Get and Find need, over plain values.
 use Prim.Native.Nat.{◌<◌, ℕ}
+use Rattle.std.specs.Prelude.{Option, Some, None}
 use mathlib.Core.Bool.{cond, false, true}
 use mathlib.Core.List.{List}
 use mathlib.Core.Path.{ap, refl, sym, ◌∙◌, ◌≡◌}
@@ -12,8 +13,6 @@ use Rattle.book.specs.declared.Book.{Book}
 use Rattle.lists.proofs.ByPlace.{last-inside}
 use Rattle.lists.proofs.Tests.{differ, split}
 use Rattle.lists.specs.ByPlace.{place}
-use Rattle.lists.specs.declared.Found.{Found}
-use Rattle.lists.specs.declared.Found.TheVariants.{At, Nothing}
 use Rattle.sights.specs.Sights.{find_of, found_at, get_of, got_at, none_got, other_at, seek_at}
 use Rattle.sights.specs.declared.Got.{Got}
 use Rattle.tapa.specs.Codes.{file_seek_error, invalid_file_id, invalid_record_pointer, search_key_too_large, successful}
@@ -21,23 +20,23 @@ use Rattle.tapa.specs.Codes.{file_seek_error, invalid_file_id, invalid_record_po
 module _ (b : Book) (f : ℕ) where
   -- ---- Get
   module _ (p o : ℕ) where
-    pub seek-inside : Shaped b → (i : ℕ) → seek_at o f p (entries_of b) ≡ At i → i < b.count
+    pub seek-inside : Shaped b → (i : ℕ) → seek_at o f p (entries_of b) ≡ Some i → i < b.count
     seek-inside h i e =
         split (ltb o 2)
-        (λ t. split (eqb p 0) (λ u. let k : Nothing ≡ At i = rw (t, u) at e in differ (cc)) (λ u. place_in b h (meant f p) i (rw (t, u) at e)))
+        (λ t. split (eqb p 0) (λ u. let k : None ≡ Some i = rw (t, u) at e in differ (cc)) (λ u. place_in b h (meant f p) i (rw (t, u) at e)))
         (λ t. split (eqb o 2) (λ u. place_in b h (meant f 0) i (rw (t, u) at e)) (λ u. omega (arith, last-inside (in_file f) (entries_of b) i (rw (t, u) at e), law-len b h)))
 
-    pub get-hit : (i other : ℕ) → (kind_of b.kinds f).made ≡ true → seek_at o f p (entries_of b) ≡ At i → other ≡ other_at o f (entries_of b) i
+    pub get-hit : (i other : ℕ) → (kind_of b.kinds f).made ≡ true → seek_at o f p (entries_of b) ≡ Some i → other ≡ other_at o f (entries_of b) i
         → ◌≡◌ {A = Got} (record { code = successful; at = i; other = other }) (get_of b f p o)
     get-hit i other e g m = rw e (ap (λ (n : ℕ). record { code = successful; at = i; other = n }) m ∙ ap (got_at o f (entries_of b)) (sym g))
 
-    pub get-miss : (n : ℕ) → (kind_of b.kinds f).made ≡ true → seek_at o f p (entries_of b) ≡ Nothing → n ≡ cond (ltb o 2) invalid_record_pointer file_seek_error
+    pub get-miss : (n : ℕ) → (kind_of b.kinds f).made ≡ true → seek_at o f p (entries_of b) ≡ None → n ≡ cond (ltb o 2) invalid_record_pointer file_seek_error
         → none_got n ≡ get_of b f p o
     get-miss n e g m = rw e (ap none_got m ∙ ap (got_at o f (entries_of b)) (sym g))
 
   -- ---- Find
   pub find-hit : (area key : List ℕ) (i other : ℕ) → (kind_of b.kinds f).made ≡ true → ltb (kind_of b.kinds f).keymax (length key) ≡ false
-      → place (key_at area f key) 0 (entries_of b) ≡ At i → other ≡ (get_or (entries_of b) i no_entry).pointer
+      → place (key_at area f key) 0 (entries_of b) ≡ Some i → other ≡ (get_or (entries_of b) i no_entry).pointer
       → ◌≡◌ {A = Got} (record { code = successful; at = i; other = other }) (find_of b area f key)
   find-hit area key i other d e g m = rw (d, e, g) (ap (λ (n : ℕ). record { code = successful; at = i; other = n }) m)
 
@@ -47,9 +46,9 @@ module _ (b : Book) (h : Shaped b) (f : ℕ) where
   get-inside p o =
       split (kind_of b.kinds f).made (λ t. rw t (go (seek_at o f p (entries_of b)) refl)) (λ t. rw t (λ e. absurd (let z : invalid_file_id ≡ 0 = e in omega arith)))
     where
-      go : (z : Found) → seek_at o f p (entries_of b) ≡ z → (got_at o f (entries_of b) z).code ≡ successful → (got_at o f (entries_of b) z).at < length (entries_of b)
-      go Nothing e c = split (ltb o 2) (λ t. let z : invalid_record_pointer ≡ 0 = rw t at c in absurd (omega arith)) (λ t. let z : file_seek_error ≡ 0 = rw t at c in absurd (omega arith))
-      go (At i) e c = omega (arith, seek-inside b f p o h i e, law-len b h)
+      go : (z : Option ℕ) → seek_at o f p (entries_of b) ≡ z → (got_at o f (entries_of b) z).code ≡ successful → (got_at o f (entries_of b) z).at < length (entries_of b)
+      go None e c = split (ltb o 2) (λ t. let z : invalid_record_pointer ≡ 0 = rw t at c in absurd (omega arith)) (λ t. let z : file_seek_error ≡ 0 = rw t at c in absurd (omega arith))
+      go (Some i) e c = omega (arith, seek-inside b f p o h i e, law-len b h)
 
   pub found_inside : (area key : List ℕ) → (find_of b area f key).code ≡ successful → (find_of b area f key).at < length (entries_of b)
   found_inside area key =
@@ -58,6 +57,6 @@ module _ (b : Book) (h : Shaped b) (f : ℕ) where
       (λ u. rw (t, u) (go (place (key_at area f key) 0 (entries_of b)) refl)))
       (λ t. rw t (λ e. absurd (let z : invalid_file_id ≡ 0 = e in omega arith)))
     where
-      go : (z : Found) → place (key_at area f key) 0 (entries_of b) ≡ z → (found_at (entries_of b) z).code ≡ successful → (found_at (entries_of b) z).at < length (entries_of b)
-      go Nothing e c = absurd (let z : file_seek_error ≡ 0 = c in omega arith)
-      go (At i) e c = omega (arith, place_in b h (key_at area f key) i e, law-len b h)
+      go : (z : Option ℕ) → place (key_at area f key) 0 (entries_of b) ≡ z → (found_at (entries_of b) z).code ≡ successful → (found_at (entries_of b) z).at < length (entries_of b)
+      go None e c = absurd (let z : file_seek_error ≡ 0 = c in omega arith)
+      go (Some i) e c = omega (arith, place_in b h (key_at area f key) i e, law-len b h)

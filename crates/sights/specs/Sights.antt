@@ -1,22 +1,19 @@
 -- What Get and Find answer of the book, and what that shows over the area.
-use Rattle.std.specs.Prelude.{◌+◌, ℕ, cond, not, List, [], ◌∷◌, eqb, ltb, drop, get_or, length, take}
-use Rattle.std.proofs.Math.Option.{none, some}
+use Rattle.std.specs.Prelude.{◌+◌, ℕ, cond, not, List, [], ◌∷◌, eqb, ltb, drop, get_or, length, take, Option, Some, None}
 use Rattle.book.specs.Book.{entries_of, in_file, key_at, kind_of, meant, no_entry, pointer_at, rec_of}
 use Rattle.book.specs.declared.Book.{Book}
 use Rattle.book.specs.declared.Entry.{Entry}
 use Rattle.files.specs.Files.{Sight, nextward}
 use Rattle.lists.specs.ByPlace.{last, place}
 use Rattle.lists.specs.Lists.{checks}
-use Rattle.lists.specs.declared.Found.{Found}
-use Rattle.lists.specs.declared.Found.TheVariants.{At, Nothing}
 use Rattle.sights.specs.declared.Got.{Got}
 use Rattle.tapa.specs.Codes.{file_seek_error, invalid_file_id, invalid_record_pointer, search_key_too_large, successful}
 
 -- ---- Get
 
-abbrev pub seek_at : ℕ → ℕ → ℕ → List Entry → Found
+abbrev pub seek_at : ℕ → ℕ → ℕ → List Entry → Option ℕ
 seek_at o f p l =
-    cond (ltb o 2) (cond (eqb p 0) Nothing (place (meant f p) 0 l)) (cond (eqb o 2) (place (meant f 0) 0 l) (last (in_file f) l))
+    cond (ltb o 2) (cond (eqb p 0) None (place (meant f p) 0 l)) (cond (eqb o 2) (place (meant f 0) 0 l) (last (in_file f) l))
 
 abbrev pub other_at : ℕ → ℕ → List Entry → ℕ → ℕ
 other_at o f l i = cond (nextward o) (pointer_at l (place (meant f 0) (i + 1) (drop (i + 1) l))) (pointer_at l (last (in_file f) (take i l)))
@@ -24,9 +21,9 @@ other_at o f l i = cond (nextward o) (pointer_at l (place (meant f 0) (i + 1) (d
 abbrev pub none_got : ℕ → Got
 none_got n = record { code = n; at = 0; other = 0 }
 
-abbrev pub got_at : ℕ → ℕ → List Entry → Found → Got
-got_at o f l Nothing = none_got (cond (ltb o 2) invalid_record_pointer file_seek_error)
-got_at o f l (At i) = record { code = successful; at = i; other = other_at o f l i }
+abbrev pub got_at : ℕ → ℕ → List Entry → Option ℕ → Got
+got_at o f l None = none_got (cond (ltb o 2) invalid_record_pointer file_seek_error)
+got_at o f l (Some i) = record { code = successful; at = i; other = other_at o f l i }
 
 abbrev pub get_of : Book → ℕ → ℕ → ℕ → Got
 get_of b f p o =
@@ -34,9 +31,9 @@ get_of b f p o =
 
 -- ---- Find
 
-abbrev pub found_at : List Entry → Found → Got
-found_at l Nothing = none_got file_seek_error
-found_at l (At i) = record { code = successful; at = i; other = (get_or l i no_entry).pointer }
+abbrev pub found_at : List Entry → Option ℕ → Got
+found_at l None = none_got file_seek_error
+found_at l (Some i) = record { code = successful; at = i; other = (get_or l i no_entry).pointer }
 
 abbrev pub find_of : Book → List ℕ → ℕ → List ℕ → Got
 find_of b area f key =
@@ -48,4 +45,4 @@ find_of b area f key =
 
 -- what an answer of the code says, over the area
 abbrev pub sight_of : List ℕ → List Entry → Got → Sight
-sight_of area l g = record { code = g.code; it = cond (eqb g.code successful) (some (rec_of area (get_or l g.at no_entry))) none; pointer = g.other }
+sight_of area l g = record { code = g.code; it = cond (eqb g.code successful) (Some (rec_of area (get_or l g.at no_entry))) None; pointer = g.other }

@@ -14,7 +14,6 @@ ghost use Rattle.files.specs.Files.{nextward};
 ghost use Rattle.sights.specs.Sights.{find_of, get_of, none_got, other_at, seek_at};
 
 use book::Book;
-use lists::Found;
 
 // The code, a record's place in the book, and a pointer: the next or the previous one's, or its own.
 #[derive(Clone, Copy)]
@@ -37,16 +36,16 @@ pub fn none_got(code: u16) -> Got
 
 // ---- Get
 
-fn pointer_at(b: Book, at: Found) -> u16
+fn pointer_at(b: Book, at: Option<usize>) -> u16
     requires { Shaped b }
     ensures { result ≡ pointer_at (entries_of b) at }
 {
     match at {
-        Found::At(i) => {
+        Some(i) => {
             let x = store_entries::entry_at(b, i);
             x.pointer
         }
-        Found::Nothing => 0,
+        None => 0,
     }
 }
 
@@ -74,13 +73,13 @@ fn other_pointer(b: Book, f: u16, o: u8, i: usize) -> u16
 }
 
 // The entry that a pointer and an orientation name.
-fn seek(b: Book, f: u16, p: u16, o: u8) -> Found
+fn seek(b: Book, f: u16, p: u16, o: u8) -> Option<usize>
     requires { Shaped b }
     ensures { result ≡ seek_at o f p (entries_of b) }
 {
     if o < 2 {
         if p == 0 {
-            return Found::Nothing;
+            return None;
         }
         return store_entries::first_from(b, 0, f, p);
     }
@@ -99,12 +98,12 @@ pub fn get(b: Book, f: u16, p: u16, o: u8) -> Got
         return none_got(tapa::INVALID_FILE_ID);
     }
     match seek(b, f, p, o) {
-        Found::At(i) => Got {
+        Some(i) => Got {
             code: tapa::SUCCESSFUL,
             at: i,
             other: other_pointer(b, f, o, i),
         },
-        Found::Nothing => {
+        None => {
             if o < 2 {
                 none_got(tapa::INVALID_RECORD_POINTER)
             } else {
@@ -128,7 +127,7 @@ pub fn find(b: Book, area: &[u8], f: u16, key: &[u8]) -> Got
         return none_got(tapa::SEARCH_KEY_TOO_LARGE);
     }
     match store_entries::with_key(b, area, 0, f, key) {
-        Found::At(i) => {
+        Some(i) => {
             let x = store_entries::entry_at(b, i);
             Got {
                 code: tapa::SUCCESSFUL,
@@ -136,6 +135,6 @@ pub fn find(b: Book, area: &[u8], f: u16, key: &[u8]) -> Got
                 other: x.pointer,
             }
         }
-        Found::Nothing => none_got(tapa::FILE_SEEK_ERROR),
+        None => none_got(tapa::FILE_SEEK_ERROR),
     }
 }

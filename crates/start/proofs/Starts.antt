@@ -1,10 +1,10 @@
 -- What a start hands back: over an accepted table a fresh router that keeps the law.
 use mathlib.Core.Path.{◌≡◌, ap, ◌∙◌}
+use Rattle.tapa.specs.declared.Refusal.{Refusal}
+use Rattle.std.specs.Prelude.{Result, Ok, ⊤}
 use mathlib.Core.List.{List, reverse}
 use Rattle.table.specs.declared.Row.{Row}
 use Rattle.table.specs.declared.Rows.{Rows}
-use Rattle.table.specs.declared.Checked.{Checked}
-use Rattle.table.specs.declared.Checked.TheVariants.{Accepted}
 use Rattle.table.specs.Table.{held_rows, Held, judge_rows, judge_table, kept_by, rows_read, Proper}
 use Rattle.table.proofs.Judged.{accepted}
 use Rattle.table.proofs.Read.{read-rows}
@@ -36,10 +36,10 @@ pub lent-law : (rows : List Row) → Lawful (start_of rows).router
 lent-law rows = from-law (set_up_of rows) (lent-settled rows)
 
 -- of rows by value
-pub start-view : (t : Rows) → judge_rows t ≡ Accepted → view_of (start_with t).router ≡ fresh (held_rows t)
-start-view t e = ap (λ (c : Checked). view_of (fresh_over (kept_by c t))) e
+pub start-view : (t : Rows) → judge_rows t ≡ Ok tt → view_of (start_with t).router ≡ fresh (held_rows t)
+start-view t e = ap (λ (c : Result ⊤ Refusal). view_of (fresh_over (kept_by c t))) e
 
 -- of lent rows: the view's rows are these, the last first
-pub lent_view : (rows : List Row) → judge_table rows ≡ Accepted → view_of (start_of rows).router ≡ fresh (reverse rows)
+pub lent_view : (rows : List Row) → judge_table rows ≡ Ok tt → view_of (start_of rows).router ≡ fresh (reverse rows)
 lent_view rows e =
-    ap (λ (c : Checked). view_of (fresh_over (kept_by c (rows_read rows)))) e ∙ ap fresh (read-rows rows (accepted rows e).few)
+    ap (λ (c : Result ⊤ Refusal). view_of (fresh_over (kept_by c (rows_read rows)))) e ∙ ap fresh (read-rows rows (accepted rows e).few)

@@ -12,12 +12,13 @@ ghost use Rattle.start.specs.Start.{fresh_over, blank as blank_router, start_fro
 
 use router::Router;
 use setup::SetUp;
-use table::{Checked, Rows};
+use table::Rows;
+use tapa::Refusal;
 
 // What a start answers, and the router; a refused table leaves a blank one.
 #[derive(Clone, Copy)]
 pub struct Started {
-    pub answer: Checked,
+    pub answer: Result<(), Refusal>,
     pub router: Router,
 }
 

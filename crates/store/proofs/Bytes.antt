@@ -1,5 +1,6 @@
 -- Whole messages in bytes: requests with their replies, and what is refused before it is looked at.
 use Prim.Native.Nat.{ℕ, ◌≤◌}
+use Rattle.std.specs.Prelude.{Some, Ok}
 use mathlib.Core.List.{◌++◌, List, [], ◌∷◌}
 use mathlib.Core.Path.{refl, ◌≡◌}
 use lib.ListN.{drop, length, replicate}
@@ -11,7 +12,6 @@ use Rattle.files.specs.Files.{File}
 use Rattle.lists.specs.Least.{least}
 use Rattle.message.specs.Message.{message_of, part_of, read_of}
 use Rattle.replies.specs.Said.{said_answer}
-use Rattle.replies.specs.declared.Answer.TheVariants.{Reply}
 use Rattle.store.specs.Plain.{told_of}
 use Rattle.store.specs.Store.{deed_of, elsewhere, handled}
 use Rattle.tapa.specs.Address.{category_of}
@@ -26,7 +26,7 @@ texts = record { id = 1; key_max = 4; rec_max = 32; records = record { pointer =
 module _ (buffer : List ℕ) (room : 398 ≤ length buffer) where
   -- a message to these files has this reply at the start of the buffer, and the files are then these
   abbrev replies : List File → List ℕ → ℕ → List ℕ → List File → Type 0
-  replies s message n bytes after = told_of s message buffer ≡ record { answer = Reply n; files = after; reply = bytes ++ drop n buffer }
+  replies s message n bytes after = told_of s message buffer ≡ record { answer = Ok (Some n); files = after; reply = bytes ++ drop n buffer }
 
   -- Create File
   pub create-message : replies [] (5 ∷ 0 ∷ 1 ∷ 0 ∷ 0x90 ∷ 3 ∷ 0 ∷ 4 ∷ 1 ∷ 4 ∷ 0 ∷ 0x20 ∷ []) 12 (1 ∷ 0 ∷ 5 ∷ 0 ∷ 0xFF ∷ 3 ∷ 0 ∷ 4 ∷ 0 ∷ 1 ∷ 0 ∷ 0 ∷ [])
@@ -50,7 +50,7 @@ module _ (buffer : List ℕ) (room : 398 ≤ length buffer) where
   -- ---- of a book and its area: Open Handler and Close Handler, whatever they hold
   module _ (b : Book) (area : List ℕ) where
     abbrev marked : List ℕ → List ℕ → Type 0
-    marked message bytes = handled b area message buffer ≡ record { answer = Reply 10; book = b; area = area; reply = bytes ++ drop 10 buffer }
+    marked message bytes = handled b area message buffer ≡ record { answer = Ok (Some 10); book = b; area = area; reply = bytes ++ drop 10 buffer }
 
     pub mark-message : marked (5 ∷ 0 ∷ 1 ∷ 0 ∷ 0xF0 ∷ 3 ∷ 0 ∷ 0 ∷ []) (1 ∷ 0 ∷ 5 ∷ 0 ∷ 0xFF ∷ 3 ∷ 0 ∷ 2 ∷ 0 ∷ 0 ∷ [])
         × marked (5 ∷ 0 ∷ 1 ∷ 0 ∷ 0xF1 ∷ 3 ∷ 0 ∷ 0 ∷ []) (1 ∷ 0 ∷ 5 ∷ 0 ∷ 0xFF ∷ 3 ∷ 0 ∷ 2 ∷ 0 ∷ 0 ∷ [])

@@ -1,8 +1,8 @@
 -- All that a message comes to.
 use Prim.Native.Nat.{◌+◌, ◌-◌, ℕ, ◌≤◌}
+use Rattle.std.specs.Prelude.{Option, Result, Ok, Err, Some}
 use mathlib.Core.Bool.{not, ◌||◌}
 use mathlib.Core.List.{List, [], ◌∷◌}
-use mathlib.Core.Option.{some}
 use mathlib.Core.Path.{ap, refl, sym, ◌∙◌, ◌≡◌}
 use native.Mathlib.Omega.{arith}
 use lib.Dec.{eqb, ltb}
@@ -17,28 +17,24 @@ use Rattle.message.specs.declared.Head.{Head}
 use Rattle.replies.proofs.Checking.{passed-room as least-room, through-checking}
 use Rattle.replies.specs.Replies.{Answers, answer_of}
 use Rattle.replies.specs.Said.{said_answer}
-use Rattle.replies.specs.declared.Answer.{Answer}
-use Rattle.replies.specs.declared.Answer.TheVariants.{Refused}
 use Rattle.store.specs.Store.{Handling, checked, deed_of, elsewhere, handled, obeys}
-use Rattle.replies.specs.declared.Checked.{Checked}
-use Rattle.replies.specs.declared.Checked.TheVariants.{Failed, Passed}
 use Rattle.tapa.specs.Address.{category_of}
 use Rattle.tapa.specs.Numbers.{word_at}
 use Rattle.tapa.specs.Said.{Said, refused}
 use Rattle.tapa.specs.declared.Refusal.{Refusal}
 
-pub passed-room : (room : ℕ) (message : List ℕ) (h : Head) → checked room message ≡ Passed h → 398 ≤ room
+pub passed-room : (room : ℕ) (message : List ℕ) (h : Head) → checked room message ≡ Ok h → 398 ≤ room
 passed-room room message h e = least-room elsewhere 398 room message h e
 
 module _ (b : Book) (area message before : List ℕ) where
-  pub refusing : (r : Refusal) → Lawful b area → checked (length before) message ≡ Failed r
-      → Handling (handled b area message before) area before (record { answer = Refused r; next = b })
+  pub refusing : (r : Refusal) → Lawful b area → checked (length before) message ≡ Err r
+      → Handling (handled b area message before) area before (record { answer = Err r; next = b })
   unfolding handled
   refusing r law e = rw e (record { answer = refl; next = refl; area' = refl; reply' = refl; law = law })
 
-  pub obeyed : (h : Head) (next : Book) (area₁ after : List ℕ) (a : Answer) → Lawful next area₁ → checked (length before) message ≡ Passed h
+  pub obeyed : (h : Head) (next : Book) (area₁ after : List ℕ) (a : Result (Option ℕ) Refusal) → Lawful next area₁ → checked (length before) message ≡ Ok h
       → next ≡ (deed_of h.kind (part_of message) b area).book → area₁ ≡ (deed_of h.kind (part_of message) b area).area
-      → Answers h (some (deed_of h.kind (part_of message) b area).part) before after a
+      → Answers h (Some (deed_of h.kind (part_of message) b area).part) before after a
       → Handling (handled b area message before) area₁ after (record { answer = a; next = next })
   unfolding handled
   obeyed h next area₁ after a law e n m r = rw e (record { answer = r.answer; next = n; area' = m; reply' = r.reply; law = law })
@@ -62,9 +58,9 @@ pub said-answer : (b : Book) (area s reply : List ℕ) → said_answer (handled 
     ∷ (ltb (8 + word_at s 6) (length s), refused 19)
     ∷ (not (eqb (category_of (word_at s 0)) 0x05) || eqb (get_or s 4 0) 0xFF, refused 15)
     ∷ [])
-    (said_answer (answer_of (some (deed_of (get_or s 4 0) (part_of s) b area).part)))
+    (said_answer (answer_of (Some (deed_of (get_or s 4 0) (part_of s) b area).part)))
 unfolding handled elsewhere
 said-answer b area s reply = through-checking elsewhere 398 (length reply) s said
   where
-    said : Checked → Said
+    said : Result Head Refusal → Said
     said c = said_answer (obeys c (part_of s) b area reply).answer

@@ -1,5 +1,8 @@
 -- What every store is from the first call on: a fresh book stands for no file, the plain list stays sound, and the law of book and area is kept.
 use Prim.Native.Nat.{ℕ}
+use Rattle.tapa.specs.declared.Refusal.{Refusal}
+use Rattle.message.specs.declared.Head.{Head}
+use Rattle.std.specs.Prelude.{Result, Ok, Err}
 use mathlib.Core.List.{List, []}
 use mathlib.Core.Path.{refl, ◌≡◌}
 use lib.ListN.{length}
@@ -14,8 +17,6 @@ use Rattle.message.specs.Message.{part_of}
 use Rattle.store.proofs.Right.{as_plain}
 use Rattle.store.specs.Plain.{tells_after, told_of}
 use Rattle.store.specs.Store.{checked, handled}
-use Rattle.replies.specs.declared.Checked.{Checked}
-use Rattle.replies.specs.declared.Checked.TheVariants.{Failed, Passed}
 
 -- ---- at first
 
@@ -36,9 +37,9 @@ told-sound : (s : List File) (message reply : List ℕ) → Sound s → Sound (t
 unfolding told_of
 told-sound s message reply w = after (checked (length reply) message)
   where
-    after : (c : Checked) → Sound (tells_after c (part_of message) s reply).files
-    after (Failed r) = w
-    after (Passed h) = sound-done h.kind (part_of message) s w
+    after : (c : Result Head Refusal) → Sound (tells_after c (part_of message) s reply).files
+    after (Err r) = w
+    after (Ok h) = sound-done h.kind (part_of message) s w
 
 -- pointers of a file differ and are 1 to 256, keys of a keyed file differ, lengths are within the file's, identifiers differ
 pub sound-kept : (b : Book) (area message reply : List ℕ) → Lawful b area → Bytes message → Sound (view_of b area)

@@ -1,13 +1,14 @@
 -- How far the contract reaches: two calls on the same inputs that meet it hand back the same answer, the same next book, the same area and the same buffer.
 use Prim.Native.Nat.{ℕ}
+use Rattle.tapa.specs.declared.Refusal.{Refusal}
+use Rattle.std.specs.Prelude.{Option}
 use mathlib.Core.List.{List}
 use mathlib.Core.Path.{sym, ◌∙◌, ◌≡◌}
 use Rattle.book.specs.declared.Book.{Book}
-use Rattle.replies.specs.declared.Answer.{Answer}
 use Rattle.store.specs.Store.{Handling, Result}
 use Rattle.store.specs.declared.Handled.{Handled}
 
-same-handled : (a b : Answer) (p q : Book) → a ≡ b → p ≡ q → ◌≡◌ {A = Handled} (record { answer = a; next = p }) (record { answer = b; next = q })
+same-handled : (a b : Result (Option ℕ) Refusal) (p q : Book) → a ≡ b → p ≡ q → ◌≡◌ {A = Handled} (record { answer = a; next = p }) (record { answer = b; next = q })
 same-handled a b p q e f = cc
 
 pub one-handle : (w : Result) (area_a area_b reply_a reply_b : List ℕ) (h k : Handled) → Handling w area_a reply_a h → Handling w area_b reply_b k → (h ≡ k) × (area_a ≡ area_b) × (reply_a ≡ reply_b)

@@ -1,15 +1,16 @@
 -- 'Every command does to the store what it does to a plain list of files, each a list of records': one theorem a command, one over all, and one of a whole message.
 use Prim.Native.Nat.{◌<◌, suc, zero, ℕ, ◌≤◌}
+use Rattle.tapa.specs.declared.Refusal.{Refusal}
+use Rattle.message.specs.declared.Head.{Head}
 use mathlib.Core.Bool.{Bool, cond, false, true}
 use mathlib.Core.List.{◌++◌, List, [], ◌∷◌}
-use mathlib.Core.Option.{some}
 use mathlib.Core.Path.{ap, refl, sym, ◌∙◌, ◌≡◌}
 use native.Mathlib.Omega.{arith}
 use lib.Dec.{eqb}
 use lib.ListN.{drop, get_or, length, take}
 use lib.Seq.{get_or-drop, take_at}
 use borrow.Author.Tests.{eqb-true, ne_eqb}
-use Rattle.std.specs.Prelude.{Err, Ok}
+use Rattle.std.specs.Prelude.{Err, Ok, Some}
 use Rattle.book.specs.Book.{Lawful, view_of}
 use Rattle.book.specs.declared.Book.{Book}
 use Rattle.file_commands.proofs.Creates.{CreateRight, create-fails, create-right}
@@ -29,8 +30,6 @@ use Rattle.replies.specs.Replies.{answer_of, replied}
 use Rattle.sights.proofs.Sights.{find-right, get-right}
 use Rattle.store.specs.Plain.{Told, tells_after, told_of}
 use Rattle.store.specs.Store.{Deed, Result, add_deed, checked, clear_deed, code_deed, create_deed, deed_if, deed_of, delete_deed, delete_files_deed, find_deed, find_delete_deed, get_deed, handled, ids_part, made_deed, mark_deed, obeys, update_deed}
-use Rattle.replies.specs.declared.Checked.{Checked}
-use Rattle.replies.specs.declared.Checked.TheVariants.{Failed, Passed}
 use Rattle.tapa.specs.Codes.{add_record, clear_file, close_handler, create_file, delete_file, delete_record, find_and_delete, find_record, get_record, open_handler, successful, unsupported_operation, update_record}
 use Rattle.tapa.specs.Numbers.{two_bytes, word_at}
 
@@ -211,13 +210,13 @@ module _ (b : Book) (area : List ℕ) (law : Lawful b area) where
       byte : get_or (part_of message) 1 0 ≤ 255
       byte = part-byte message bytes
 
-      go : (c : Checked) → AsPlain (obeys c (part_of message) b area reply) (tells_after c (part_of message) s reply)
-      go (Failed r) = record { answer = refl; files = refl; reply = refl; lawful = law }
-      go (Passed h) =
+      go : (c : Result Head Refusal) → AsPlain (obeys c (part_of message) b area reply) (tells_after c (part_of message) s reply)
+      go (Err r) = record { answer = refl; files = refl; reply = refl; lawful = law }
+      go (Ok h) =
           let r = does-right (part_of message) h.kind byte in
           record {
-            answer = ap (λ (p : List ℕ). answer_of (some p)) r.part;
+            answer = ap (λ (p : List ℕ). answer_of (Some p)) r.part;
             files = r.files;
-            reply = ap (λ (p : List ℕ). replied h (some p) reply) r.part;
+            reply = ap (λ (p : List ℕ). replied h (Some p) reply) r.part;
             lawful = r.lawful;
           }

@@ -1,7 +1,7 @@
 -- The response's data, written piece after piece.
 use Prim.Native.Nat.{◌%◌, ◌*◌, ◌+◌, ◌/◌, ◌<◌, ℕ, ◌≤◌}
+use Rattle.std.specs.Prelude.{Some}
 use mathlib.Core.List.{◌++◌, List, [], append_assoc, ◌∷◌}
-use mathlib.Core.Option.{some}
 use mathlib.Core.Path.{ap, refl, sym, ◌∙◌, ◌≡◌}
 use native.Mathlib.Omega.{arith}
 use lib.ListN.{drop, get_or, length, length-append, length-drop, take}
@@ -57,7 +57,7 @@ module _ (area : List ℕ) (x : Entry) (long : length area ≡ 98048) (slot : x.
   pub record-written : (buf : List ℕ) (p k : ℕ) (P Q b1 b2 b3 b4 b5 : List ℕ) (n1 n2 n3 n4 n5 : ℕ) → 390 ≤ length buf → k ≡ x.keylen → P ≡ (rec_of area x).key → Q ≡ (rec_of area x).bytes
       → b1 ≡ over buf 0 (k ∷ []) → n1 ≡ 0 + 1 → b2 ≡ over b1 n1 P → n2 ≡ n1 + length P → b3 ≡ over b2 n2 (two_bytes x.len) → n3 ≡ n2 + 2
       → b4 ≡ over b3 n3 Q → n4 ≡ n3 + length Q → b5 ≡ over b4 n4 (two_bytes p) → n5 ≡ n4 + 2
-      → (n5 ≡ x.keylen + x.len + 5) × (b5 ≡ over buf 0 (sight_bytes (some (rec_of area x)) p))
+      → (n5 ≡ x.keylen + x.len + 5) × (b5 ≡ over buf 0 (sight_bytes (Some (rec_of area x)) p))
   record-written buf p k P Q b1 b2 b3 b4 b5 n1 n2 n3 n4 n5 room ek eP eQ e1 m1 e2 m2 e3 m3 e4 m4 e5 m5 =
       let lp : length P ≡ x.keylen = ap length eP ∙ key-long in
       let lq : length Q ≡ x.len = ap length eQ ∙ body-long in
@@ -77,7 +77,7 @@ module _ (area : List ℕ) (x : Entry) (long : length area ≡ 98048) (slot : x.
         s5 ∙ ap (over buf 0) flat ∙ (λ i. over buf 0 (size i ∷ (eP i ++ (two_bytes (sym body-long i) ++ (eQ i ++ e))))),
       )
 
-  pub sight-long : (p : ℕ) → length (sight_bytes (some (rec_of area x)) p) ≡ x.keylen + x.len + 5
+  pub sight-long : (p : ℕ) → length (sight_bytes (Some (rec_of area x)) p) ≡ x.keylen + x.len + 5
   sight-long p =
       let r = rec_of area x in
       let a = length-append r.key (two_bytes (length r.bytes) ++ (r.bytes ++ two_bytes p)) in

@@ -1,6 +1,5 @@
 -- The data store (section 11): what a message comes to, over the book and the lent area.
-use Rattle.std.specs.Prelude.{IfOk, ◌≤◌, ◌<◌, ℕ, Bool, cond, not, ◌||◌, List, [], ◌∷◌, ◌≡◌, eqb, get_or, length, take}
-use Rattle.std.proofs.Math.Option.{some}
+use Rattle.std.specs.Prelude.{IfOk, ◌≤◌, ◌<◌, ℕ, Bool, cond, not, ◌||◌, List, [], ◌∷◌, ◌≡◌, eqb, get_or, length, take, Option, Result, Ok, Err, Some}
 use Rattle.book.specs.Book.{Lawful, entries_of}
 use Rattle.book.specs.declared.Book.{Book}
 use Rattle.file_commands.specs.Erasing.{clear_area, clear_of, create_of, delete_files_area, delete_files_of, made_book}
@@ -15,10 +14,6 @@ use Rattle.record_commands.specs.declared.Added.{Added}
 use Rattle.record_commands.specs.declared.Deleted.{Deleted}
 use Rattle.replies.specs.Checked.{opened, owned}
 use Rattle.replies.specs.Replies.{answer_of, replied}
-use Rattle.replies.specs.declared.Answer.{Answer}
-use Rattle.replies.specs.declared.Answer.TheVariants.{Refused}
-use Rattle.replies.specs.declared.Checked.{Checked}
-use Rattle.replies.specs.declared.Checked.TheVariants.{Failed, Passed}
 use Rattle.sights.specs.Sights.{find_of, get_of, sight_of}
 use Rattle.sights.specs.declared.Got.{Got}
 use Rattle.store.specs.declared.Done.{Done}
@@ -35,7 +30,7 @@ unfoldable pub elsewhere : Head → Bool
 elsewhere h = not (eqb (category_of h.destination) data_store) || eqb h.kind response
 
 -- 'Refusals: 9, 1, 2, 3 and 15 as for the event queue', 'the longest response as the least buffer size': 398 = 8 + 1 + 255 + 2 + 128 + 2 + 2
-abbrev pub checked : ℕ → List ℕ → Checked
+abbrev pub checked : ℕ → List ℕ → Result Head Refusal
 checked room message = owned elsewhere (opened 398 room message)
 
 -- ---- what a command comes to: the response's data, the next book, and the area
@@ -135,21 +130,21 @@ deed_of kind part b area =
 
 -- what a message comes to: the answer, the next book, and the whole lent memory
 pub record Result : Type 0 where
-  pub answer : Answer
+  pub answer : Result (Option ℕ) Refusal
   pub book : Book
   pub area : List ℕ
   pub reply : List ℕ
 
 -- 'A refusal returns its number only and changes nothing'
 abbrev pub refuses : Refusal → Book → List ℕ → List ℕ → Result
-refuses r b area reply = record { answer = Refused r; book = b; area = area; reply = reply }
+refuses r b area reply = record { answer = Err r; book = b; area = area; reply = reply }
 
 abbrev pub does : Head → Deed → List ℕ → Result
-does h d reply = record { answer = answer_of (some d.part); book = d.book; area = d.area; reply = replied h (some d.part) reply }
+does h d reply = record { answer = answer_of (Some d.part); book = d.book; area = d.area; reply = replied h (Some d.part) reply }
 
-abbrev pub obeys : Checked → List ℕ → Book → List ℕ → List ℕ → Result
-obeys (Failed r) part b area reply = refuses r b area reply
-obeys (Passed h) part b area reply = does h (deed_of h.kind part b area) reply
+abbrev pub obeys : Result Head Refusal → List ℕ → Book → List ℕ → List ℕ → Result
+obeys (Err r) part b area reply = refuses r b area reply
+obeys (Ok h) part b area reply = does h (deed_of h.kind part b area) reply
 
 unfoldable pub handled : Book → List ℕ → List ℕ → List ℕ → Result
 handled b area message reply = obeys (checked (length reply) message) (part_of message) b area reply

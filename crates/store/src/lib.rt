@@ -9,7 +9,7 @@
 #![tactic(auto)]
 
 use book::Book;
-use replies::Answer;
+use tapa::Refusal;
 
 // How long a response's data are, and the book after the command.
 #[derive(Clone, Copy)]
@@ -21,6 +21,6 @@ pub struct Done {
 // What a message came to, beside the book as it then is.
 #[derive(Clone, Copy)]
 pub struct Handled {
-    pub answer: Answer,
+    pub answer: Result<Option<usize>, Refusal>,
     pub next: Book,
 }

@@ -7,8 +7,7 @@
 // and laws are room `store`'s.
 #![tactic(auto)]
 
-ghost use Rattle.std.specs.Prelude.{◌*◌, ◌+◌, ◌≤◌, ◌≡◌, length, take};
-ghost use Rattle.std.proofs.Math.Option.{some};
+ghost use Rattle.std.specs.Prelude.{Some, ◌*◌, ◌+◌, ◌≤◌, ◌≡◌, length, take};
 ghost use Rattle.book.specs.Book.{Lawful, entries_of, rec_of};
 ghost use Rattle.files.specs.Asked.{carrying, seen_part, sight_bytes, words_of};
 ghost use Rattle.file_commands.specs.Erasing.{made_book};
@@ -20,7 +19,6 @@ ghost use Rattle.tapa.specs.Numbers.{two_bytes};
 
 use book::{Book, Entry};
 use file_commands::Made;
-use replies::{Answer, Checked};
 use sights::Got;
 use store::{Done, Handled};
 
@@ -60,7 +58,7 @@ fn put_ids(body: &mut [u8], ids: &[u16; 16], n: usize) -> usize
 // A record and a pointer, as Get and Find show them, before the code.
 fn put_record(body: &mut [u8], area: &[u8], x: Entry, pointer: u16) -> usize
     requires { (length area.now ≡ 98048) × (x.slot ≤ 255) × (x.keylen ≤ 255) × (x.len ≤ 128) × (390 ≤ length body.old) }
-    ensures { (result ≡ x.keylen + x.len + 5) × (body.new ≡ over body.old 0 (sight_bytes (some (rec_of area.now x)) pointer)) }
+    ensures { (result ≡ x.keylen + x.len + 5) × (body.new ≡ over body.old 0 (sight_bytes (Some (rec_of area.now x)) pointer)) }
 {
     let key = x.keylen as usize;
     let long = [(x.keylen % 256) as u8];
@@ -314,11 +312,11 @@ pub fn handle(b: Book, area: &mut [u8], message: &[u8], reply: &mut [u8]) -> Han
     ensures { Handling (handled b area.old message.now reply.old) area.new reply.new result }
 {
     match store_asked::check(message, reply.len()) {
-        Checked::Failed(refusal) => Handled {
-            answer: Answer::Refused(refusal),
+        Err(refusal) => Handled {
+            answer: Err(refusal),
             next: b,
         },
-        Checked::Passed(head) => {
+        Ok(head) => {
             let mut body = [0u8; 390];
             let done = obey(
                 head.kind,

@@ -10,7 +10,6 @@ ghost use Rattle.files.specs.Asked.{ids_shape, key_shape, record_shape};
 ghost use Rattle.store.specs.Store.{checked, elsewhere};
 
 use message::Head;
-use replies::Checked;
 use tapa::Refusal;
 
 // The shortest reply buffer: a head, and LEN_SKEY, 255 of key, LEN_REC, 128 of data, a pointer and a code.
@@ -31,16 +30,16 @@ fn is_elsewhere(head: Head) -> bool
 }
 
 // The checks in their order; `room` is the length of the reply buffer.
-pub fn check(message: &[u8], room: usize) -> Checked
+pub fn check(message: &[u8], room: usize) -> Result<Head, Refusal>
     ensures { result ≡ checked room message.now }
 {
     match replies::open(message, room, LEAST) {
-        Checked::Failed(refusal) => Checked::Failed(refusal),
-        Checked::Passed(head) => {
+        Err(refusal) => Err(refusal),
+        Ok(head) => {
             if is_elsewhere(head) {
-                return Checked::Failed(Refusal::NotThisPartsMessage);
+                return Err(Refusal::NotThisPartsMessage);
             }
-            Checked::Passed(head)
+            Ok(head)
         }
     }
 }

@@ -12,7 +12,6 @@ ghost use Rattle.lists.specs.ByPlace.{cut, last, place};
 ghost use Rattle.lists.specs.Least.{gap, least};
 
 use book::{Book, Entry, Kind};
-use lists::Found;
 
 // ---- whole books
 
@@ -154,7 +153,7 @@ fn is_meant(x: Entry, f: u16, p: u16) -> bool
 }
 
 // The first entry from a place on that is of file f and has pointer p.
-pub fn first_from(b: Book, from: usize, f: u16, p: u16) -> Found
+pub fn first_from(b: Book, from: usize, f: u16, p: u16) -> Option<usize>
     requires { Shaped b }
     ensures { result ≡ place (meant f p) from (drop from (entries_of b)) }
 {
@@ -162,11 +161,11 @@ pub fn first_from(b: Book, from: usize, f: u16, p: u16) -> Found
     let mut i = from;
     while i < n {
         if is_meant(b.entries[i], f, p) {
-            return Found::At(i);
+            return Some(i);
         }
         i += 1;
     }
-    Found::Nothing
+    None
 }
 
 fn lesser(a: usize, b: usize) -> usize
@@ -176,7 +175,7 @@ fn lesser(a: usize, b: usize) -> usize
 }
 
 // The last entry of file f before a place.
-pub fn last_before(b: Book, end: usize, f: u16) -> Found
+pub fn last_before(b: Book, end: usize, f: u16) -> Option<usize>
     requires { Shaped b }
     ensures { result ≡ last (in_file f) (take end (entries_of b)) }
 {
@@ -185,10 +184,10 @@ pub fn last_before(b: Book, end: usize, f: u16) -> Found
         i -= 1;
         let x = b.entries[i];
         if x.file == f {
-            return Found::At(i);
+            return Some(i);
         }
     }
-    Found::Nothing
+    None
 }
 
 // Whether an entry is of file f and its key is this one.
@@ -203,7 +202,7 @@ fn key_is(area: &[u8], x: Entry, f: u16, key: &[u8]) -> bool
 }
 
 // The first entry from a place on that is of file f and has this key.
-pub fn with_key(b: Book, area: &[u8], from: usize, f: u16, key: &[u8]) -> Found
+pub fn with_key(b: Book, area: &[u8], from: usize, f: u16, key: &[u8]) -> Option<usize>
     requires { Lawful b area.now }
     ensures { result ≡ place (key_at area.now f key.now) from (drop from (entries_of b)) }
 {
@@ -211,11 +210,11 @@ pub fn with_key(b: Book, area: &[u8], from: usize, f: u16, key: &[u8]) -> Found
     let mut i = from;
     while i < n {
         if key_is(area, b.entries[i], f, key) {
-            return Found::At(i);
+            return Some(i);
         }
         i += 1;
     }
-    Found::Nothing
+    None
 }
 
 // ---- free numbers

@@ -9,7 +9,6 @@ ghost use Rattle.book.specs.Book.{Shaped, free_kind, is_made, kind_of, no_kind, 
 ghost use Rattle.lists.specs.Lists.{count};
 
 use book::{Book, Created, Kind};
-use lists::Found;
 
 // The row of a file that is not made.
 pub fn no_kind() -> Kind
@@ -65,7 +64,7 @@ pub fn files_held(b: Book) -> usize
     n
 }
 
-fn free_kind(b: Book) -> Found
+fn free_kind(b: Book) -> Option<usize>
     requires { Shaped b }
     ensures { result ≡ free_kind 0 b.kinds }
 {
@@ -73,11 +72,11 @@ fn free_kind(b: Book) -> Found
     while i < 16 {
         let k = b.kinds[i];
         if !k.made {
-            return Found::At(i);
+            return Some(i);
         }
         i += 1;
     }
-    Found::Nothing
+    None
 }
 
 // One file more, under the lowest free identifier; identifier 0 where 16 are there.
@@ -86,7 +85,7 @@ pub fn with_file(b: Book, keymax: u16, recmax: u16) -> Created
     ensures { result ≡ one_more b keymax recmax }
 {
     match free_kind(b) {
-        Found::At(i) => {
+        Some(i) => {
             let mut next = b;
             next.kinds[i] = Kind {
                 made: true,
@@ -98,6 +97,6 @@ pub fn with_file(b: Book, keymax: u16, recmax: u16) -> Created
                 next,
             }
         }
-        Found::Nothing => Created { id: 0, next: b },
+        None => Created { id: 0, next: b },
     }
 }

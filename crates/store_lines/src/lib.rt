@@ -15,7 +15,7 @@ ghost use Rattle.text.specs.Text.{pen, puts};
 use book::Book;
 use fields::NextStep;
 use ledger::{Cursor, Heard, Next, Page};
-use replies::Answer;
+use tapa::Refusal;
 
 // The longest line has 809 bytes: five digits, ` reply `, 398 bytes as hex, and a line's end.
 const LINE: usize = 1024;
@@ -80,18 +80,18 @@ fn put_reply(page: &mut [u8], at: usize, reply: &[u8], n: usize) -> usize
 }
 
 // What came of a message. The store never answers `Nothing`.
-fn put_said(page: &mut [u8], at: usize, answer: Answer, reply: &[u8]) -> usize
+fn put_said(page: &mut [u8], at: usize, answer: Result<Option<usize>, Refusal>, reply: &[u8]) -> usize
     ensures { pen page.new result ≡ puts (pen page.old at) (said_text answer reply.now) }
 {
     match answer {
-        Answer::Reply(n) => put_reply(page, at, reply, n),
-        Answer::Refused(refusal) => lines::put_number(
+        Ok(Some(n)) => put_reply(page, at, reply, n),
+        Err(refusal) => lines::put_number(
             page,
             at,
             b" refused ",
             tapa::number(refusal) as usize,
         ),
-        Answer::Nothing => at,
+        Ok(None) => at,
     }
 }
 

@@ -1,5 +1,6 @@
 -- A row and its number; and what is asked of a column, row by row.
 use Prim.Native.Nat.{ℕ, zero, suc, ◌+◌, ◌*◌, ◌-◌, ◌/◌, ◌%◌, ◌≤◌, ◌<◌}
+use Rattle.std.specs.Prelude.{Some, None}
 use mathlib.Core.Path.{◌≡◌, refl, sym, ap, ◌∙◌}
 use mathlib.Core.Bool.{Bool, true, false}
 use mathlib.Core.List.{List, [], ◌∷◌}
@@ -10,7 +11,6 @@ use lib.ListN.{length, get_or, set}
 use lib.Seq.{get_or-set_same}
 use borrow.Author.Tests.{eq-eqb, ne_eqb, eqb-true, eqb-false, leb-true, lt-ltb, le-ltb, not-false}
 use Rattle.lists.specs.Lists.{one, some_of}
-use Rattle.lists.specs.declared.Found.TheVariants.{At, Nothing}
 use Rattle.lists.specs.Lists.{find}
 use Rattle.lists.specs.Arrays.{Exact}
 use Rattle.lists.proofs.Tests.{split, or_no, and_yes}
@@ -102,7 +102,7 @@ narrow c n l e = record { few = l; narrow = go n e }
 
 -- ---- a mark that is set
 
-pub opens : (c : List ℕ) (n h : ℕ) (b : Bool) (i v : ℕ) → Column c n → i < n → find (is_at h) (rows_of c n) ≡ At i → get_or c i 0 / 2 ≡ h
+pub opens : (c : List ℕ) (n h : ℕ) (b : Bool) (i v : ℕ) → Column c n → i < n → find (is_at h) (rows_of c n) ≡ Some i → get_or c i 0 / 2 ≡ h
     → v ≡ pack (record { address = h; opened = b }) → Opened c (set c i v) n h b
 opens c n h b i v w k f e p =
     let back : unpack v ≡ record { address = h; opened = b } = ap unpack p ∙ row_back (record { address = h; opened = b }) in
@@ -110,5 +110,5 @@ opens c n h b i v w k f e p =
     let z = changed-now 16 pack unpack c n w (marked b) i v k (exact v) same in
     record { holds = z.holds ∙ change-found (marked b) (is_at h) (rows_of c n) i f; law = z.law }
 
-pub opens-none : (c : List ℕ) (n h : ℕ) (b : Bool) → Column c n → find (is_at h) (rows_of c n) ≡ Nothing → Opened c c n h b
+pub opens-none : (c : List ℕ) (n h : ℕ) (b : Bool) → Column c n → find (is_at h) (rows_of c n) ≡ None → Opened c c n h b
 opens-none c n h b w f = record { holds = sym (find-none-changed (marked b) (is_at h) (rows_of c n) f); law = w }

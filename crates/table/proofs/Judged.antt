@@ -1,5 +1,6 @@
 -- The outcomes of a table's checks, each from the tests that lead to it; and what an accepted table is.
 use Prim.Native.Nat.{ℕ, ◌+◌, ◌*◌, ◌/◌, ◌%◌, ◌≤◌, ◌<◌}
+use Rattle.std.specs.Prelude.{Result, Ok, Err, ⊤}
 use mathlib.Core.Path.{◌≡◌, refl, sym, ap, ◌∙◌}
 use mathlib.Core.Bool.{Bool, true, false, not, ◌&&◌, ◌||◌, cond, and-false}
 use mathlib.Core.List.{List, [], ◌∷◌, reverse}
@@ -16,36 +17,34 @@ use Rattle.tapa.specs.Said.{refused, says, accepted as accepted_word}
 use Rattle.tapa.specs.declared.Refusal.{Refusal}
 use Rattle.tapa.specs.declared.Refusal.TheVariants.{RowCountOrShape, Repeat, TooManyMulti}
 use Rattle.table.specs.declared.Row.{Row}
-use Rattle.table.specs.declared.Checked.{Checked}
-use Rattle.table.specs.declared.Checked.TheVariants.{Accepted, Refused}
 use Rattle.table.specs.Said.{said_checked}
 use Rattle.table.specs.Table.{is_at, listed, shaped, misshapen, is_multi, repeats, judge_table, Proper}
 
 module _ (rows : List Row) where
-  pub judge-none : length rows < 1 → judge_table rows ≡ Refused RowCountOrShape
+  pub judge-none : length rows < 1 → judge_table rows ≡ Err RowCountOrShape
   unfolding judge_table
   judge-none h = rw (lt-ltb (length rows) 1 h)
 
-  pub judge-many : 16 < length rows → judge_table rows ≡ Refused RowCountOrShape
+  pub judge-many : 16 < length rows → judge_table rows ≡ Err RowCountOrShape
   unfolding judge_table
   judge-many h = rw (le-ltb (length rows) 1 (omega arith), lt-ltb 16 (length rows) h)
 
   module _ (some : 1 ≤ length rows) (few : length rows ≤ 16) where
-    pub judge-shape : some_of misshapen rows ≡ true → judge_table rows ≡ Refused RowCountOrShape
+    pub judge-shape : some_of misshapen rows ≡ true → judge_table rows ≡ Err RowCountOrShape
     unfolding judge_table
     judge-shape e = rw (le-ltb (length rows) 1 some, le-ltb 16 (length rows) few, e)
 
     module _ (shapes : some_of misshapen rows ≡ false) where
-      pub judge-repeat : repeats rows ≡ true → judge_table rows ≡ Refused Repeat
+      pub judge-repeat : repeats rows ≡ true → judge_table rows ≡ Err Repeat
       unfolding judge_table
       judge-repeat e = rw (le-ltb (length rows) 1 some, le-ltb 16 (length rows) few, shapes, e)
 
       module _ (once : repeats rows ≡ false) where
-        pub judge-multi : 4 < count is_multi rows → judge_table rows ≡ Refused TooManyMulti
+        pub judge-multi : 4 < count is_multi rows → judge_table rows ≡ Err TooManyMulti
         unfolding judge_table
         judge-multi h = rw (le-ltb (length rows) 1 some, le-ltb 16 (length rows) few, shapes, once, lt-ltb 4 (count is_multi rows) h)
 
-        pub judge-accepted : count is_multi rows ≤ 4 → judge_table rows ≡ Accepted
+        pub judge-accepted : count is_multi rows ≤ 4 → judge_table rows ≡ Ok tt
         unfolding judge_table
         judge-accepted h = rw (le-ltb (length rows) 1 some, le-ltb 16 (length rows) few, shapes, once, le-ltb 4 (count is_multi rows) h)
 
@@ -127,15 +126,15 @@ pub all-shaped : (rows : List Row) → All (λ (r : Row). shaped r.address ≡ t
 all-shaped [] a = refl
 all-shaped (r ∷ rows) a = rw a.0 (all-shaped rows a.1)
 
-never : (f : Bool) (r : Checked) (rest : Checked) → (r ≡ Accepted → ⊥) → cond f r rest ≡ Accepted → (f ≡ false) × (rest ≡ Accepted)
+never : (f : Bool) (r : Result ⊤ Refusal) (rest : Result ⊤ Refusal) → (r ≡ Ok tt → ⊥) → cond f r rest ≡ Ok tt → (f ≡ false) × (rest ≡ Ok tt)
 never true r rest n e = absurd (n e)
 never false r rest n e = (refl, e)
 
-not-accepted : (r : Refusal) → Refused r ≡ Accepted → ⊥
+not-accepted : (r : Refusal) → ◌≡◌ {A = Result ⊤ Refusal} (Err r) (Ok tt) → ⊥
 not-accepted r e = let z : ◌≡◌ {A = ℕ} 0 1 = cc in omega arith
 
 -- an accepted table has a row
-pub has-row : (rows : List Row) → judge_table rows ≡ Accepted → 1 ≤ length rows
+pub has-row : (rows : List Row) → judge_table rows ≡ Ok tt → 1 ≤ length rows
 unfolding judge_table
 has-row rows e =
     let a = never (ltb (length rows) 1 || ltb 16 (length rows)) _ _ (not-accepted RowCountOrShape) e in
@@ -145,7 +144,7 @@ pub none-proper : Proper []
 none-proper = record { few = omega arith; shapes = tt; once = λ h. omega arith; multis = omega arith }
 
 -- and is proper
-pub accepted : (rows : List Row) → judge_table rows ≡ Accepted → Proper rows
+pub accepted : (rows : List Row) → judge_table rows ≡ Ok tt → Proper rows
 unfolding judge_table
 accepted rows e =
     let a = never (ltb (length rows) 1 || ltb 16 (length rows)) _ _ (not-accepted RowCountOrShape) e in
@@ -160,7 +159,7 @@ accepted rows e =
       multis = ltb-false 4 (count is_multi rows) d.0;
     }
 
-pub proper : (rows : List Row) → 1 ≤ length rows → Proper rows → judge_table rows ≡ Accepted
+pub proper : (rows : List Row) → 1 ≤ length rows → Proper rows → judge_table rows ≡ Ok tt
 proper rows l p = judge-accepted rows l p.few (all-shaped rows p.shapes) (apart rows p.once) p.multis
 
 -- a row of such a table names its handler

@@ -1,5 +1,7 @@
 -- Rows that are read one by one: what is held then, and that the table is judged as the list of all lent rows.
 use Prim.Native.Nat.{ℕ, zero, suc, ◌+◌, ◌≤◌, ◌<◌}
+use Rattle.tapa.specs.declared.Refusal.{Refusal}
+use Rattle.std.specs.Prelude.{Result, Ok, Err, ⊤}
 use mathlib.Core.Path.{◌≡◌, refl, sym, ap, ◌∙◌}
 use mathlib.Core.Bool.{Bool, true, false}
 use mathlib.Core.List.{List, [], ◌∷◌, ◌++◌, reverse_aux, reverse, append-nil}
@@ -15,8 +17,6 @@ use Rattle.tapa.specs.Said.{refused}
 use Rattle.tapa.specs.declared.Refusal.TheVariants.{RowCountOrShape}
 use Rattle.table.specs.declared.Row.{Row}
 use Rattle.table.specs.declared.Rows.{Rows}
-use Rattle.table.specs.declared.Checked.{Checked}
-use Rattle.table.specs.declared.Checked.TheVariants.{Accepted, Refused}
 use Rattle.table.specs.Said.{said_checked}
 use Rattle.table.specs.Table.{pack, unpack, Proper, held_rows, Held, no_rows, with_row, with_rows, rows_read, column, first_rows, judge_table, judge_rows, kept_by}
 use Rattle.table.proofs.Cells.{row_back, exact}
@@ -110,10 +110,10 @@ judge-read rows = go (ltb 16 (length rows)) refl
         rw ((read-few rows no_rows none-held refl (omega arith)).1, read-rows rows l) (judge-reverse rows)
 
 -- rows that are accepted are a table
-pub rows-proper : (t : Rows) → judge_rows t ≡ Accepted → Proper (held_rows t)
+pub rows-proper : (t : Rows) → judge_rows t ≡ Ok tt → Proper (held_rows t)
 unfolding judge_rows
 rows-proper t e =
-    split t.more (λ p. let z : Refused RowCountOrShape ≡ Accepted = rw p at e in differ (cc)) (λ p. accepted (held_rows t) (rw p at e))
+    split t.more (λ p. let z : Err RowCountOrShape ≡ Ok tt = rw p at e in differ (cc)) (λ p. accepted (held_rows t) (rw p at e))
 
 -- a row too many is a wrong row count
 pub says-more : (t : Rows) → t.more ≡ true → said_checked (judge_rows t) ≡ refused 11
@@ -124,16 +124,16 @@ says-more t e = rw e
 pub kept-proper : (t : Rows) → Proper (held_rows (kept_by (judge_rows t) t))
 kept-proper t = go (judge_rows t) refl
   where
-    go : (c : Checked) → judge_rows t ≡ c → Proper (held_rows (kept_by c t))
-    go Accepted e = rows-proper t e
-    go (Refused r) e = none-proper
+    go : (c : Result ⊤ Refusal) → judge_rows t ≡ c → Proper (held_rows (kept_by c t))
+    go (Ok tt) e = rows-proper t e
+    go (Err r) e = none-proper
 
 pub kept-held : (t : Rows) → Held t → Held (kept_by (judge_rows t) t)
 kept-held t h = go (judge_rows t)
   where
-    go : (c : Checked) → Held (kept_by c t)
-    go Accepted = h
-    go (Refused r) = none-held
+    go : (c : Result ⊤ Refusal) → Held (kept_by c t)
+    go (Ok tt) = h
+    go (Err r) = none-held
 
 -- ---- the same said at once
 

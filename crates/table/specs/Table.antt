@@ -1,5 +1,6 @@
 -- The table of handlers: 'A table is rows of address and open or closed, lent by the caller and read in order.'
-use Rattle.std.specs.Prelude.{ℕ, zero, suc, ◌+◌, ◌*◌, ◌/◌, ◌%◌, ◌≤◌, ◌<◌, ◌≡◌, Bool, true, false, not, ◌&&◌, ◌||◌, cond, List, [], ◌∷◌, eqb, leb, ltb, length, get_or, replicate, set, take}
+use Rattle.std.specs.Prelude.{ℕ, zero, suc, ◌+◌, ◌*◌, ◌/◌, ◌%◌, ◌≤◌, ◌<◌, ◌≡◌, Bool, true, false, not, ◌&&◌, ◌||◌, cond, List, [], ◌∷◌, eqb, leb, ltb, length, get_or, replicate, set, take, Result, Ok, Err, ⊤}
+use Rattle.tapa.specs.declared.Refusal.{Refusal}
 use Rattle.lists.specs.Lists.{one, checks, count, some_of, changed, All}
 use Rattle.lists.specs.Arrays.{held, Holding, Becoming}
 use Rattle.tapa.specs.Address.{category_of, sub_address_of, multi}
@@ -7,8 +8,6 @@ use Rattle.tapa.specs.Codes.{event_handler}
 use Rattle.tapa.specs.declared.Refusal.TheVariants.{RowCountOrShape, Repeat, TooManyMulti}
 use Rattle.table.specs.declared.Row.{Row}
 use Rattle.table.specs.declared.Rows.{Rows}
-use Rattle.table.specs.declared.Checked.{Checked}
-use Rattle.table.specs.declared.Checked.TheVariants.{Accepted, Refused}
 
 -- ---- what is asked of a table
 
@@ -56,15 +55,15 @@ repeats [] = false
 repeats (r ∷ rows) = listed r.address rows || repeats rows
 
 -- 'Order of checks: row count, then each row's shape (11), repeats (12), multi count (13).'
-unfoldable pub judge_table : List Row → Checked
+unfoldable pub judge_table : List Row → Result ⊤ Refusal
 judge_table rows =
     checks
-    ((ltb (length rows) 1 || ltb 16 (length rows), Refused RowCountOrShape)
-    ∷ (some_of misshapen rows, Refused RowCountOrShape)
-    ∷ (repeats rows, Refused Repeat)
-    ∷ (ltb 4 (count is_multi rows), Refused TooManyMulti)
+    ((ltb (length rows) 1 || ltb 16 (length rows), Err RowCountOrShape)
+    ∷ (some_of misshapen rows, Err RowCountOrShape)
+    ∷ (repeats rows, Err Repeat)
+    ∷ (ltb 4 (count is_multi rows), Err TooManyMulti)
     ∷ [])
-    Accepted
+    (Ok tt)
 
 -- what an accepted table is, but for having a row at all: 'to 16 rows', each of them shaped, no handler twice, 'at most 4 multi rows'.
 -- So the rows that a refused table leaves, none, are proper too, and the law holds of every state that a start hands back.
@@ -123,8 +122,8 @@ with_row t r =
     (record { cells = t.cells; count = t.count; more = true })
 
 -- what is said of rows by value: a row that found no cell is one too many
-unfoldable pub judge_rows : Rows → Checked
-judge_rows t = checks ((t.more, Refused RowCountOrShape) ∷ []) (judge_table (held_rows t))
+unfoldable pub judge_rows : Rows → Result ⊤ Refusal
+judge_rows t = checks ((t.more, Err RowCountOrShape) ∷ []) (judge_table (held_rows t))
 
 -- ---- reading lent rows
 
@@ -157,6 +156,6 @@ first_rows rows = record {
 -- ---- what set-up keeps
 
 -- an accepted table is kept, a refused one leaves no rows
-abbrev pub kept_by : Checked → Rows → Rows
-kept_by Accepted t = t
-kept_by (Refused r) t = no_rows
+abbrev pub kept_by : Result ⊤ Refusal → Rows → Rows
+kept_by (Ok tt) t = t
+kept_by (Err r) t = no_rows

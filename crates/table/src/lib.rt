@@ -31,12 +31,6 @@ pub struct Rows {
     more: bool,
 }
 
-#[derive(Clone, Copy)]
-pub enum Checked {
-    Accepted,
-    Refused(Refusal),
-}
-
 // A row as a number.
 pub fn pack_of(row: Row) -> u32
     ensures { result ≡ pack row }

@@ -7,7 +7,7 @@ ghost use Rattle.std.specs.Prelude.{◌≤◌};
 ghost use Rattle.table.specs.Table.{Column};
 
 use std::io::Print;
-use table::{Checked, Row};
+use table::Row;
 
 fn row(address: u16) -> Row {
     Row {
@@ -44,8 +44,8 @@ fn say_set_up(rt: HostRuntime, rows: [Row; 17], count: usize) {
     let done = setup::set_up_own(rows, count);
     let answer = done.answer();
     match answer {
-        Checked::Accepted => say(rt, 0),
-        Checked::Refused(refusal) => say(rt, tapa::number(refusal)),
+        Ok(()) => say(rt, 0),
+        Err(refusal) => say(rt, tapa::number(refusal)),
     }
 }
 

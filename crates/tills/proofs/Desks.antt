@@ -1,11 +1,11 @@
 -- Two desks at one router: each sees what it would see alone. Beside the router that both use, its own view follows, in which it is alone; on its
 -- threads, and of its handlers that serve one at a time, the two are alike.
 use Prim.Native.Nat.{ℕ}
+use Rattle.std.specs.Prelude.{Some}
 use mathlib.Core.Path.{◌≡◌, refl, sym, ap, ◌∙◌}
 use mathlib.Core.Logic.{⊎_elim}
 use mathlib.Core.Bool.{Bool, true, false, ◌||◌}
 use mathlib.Core.List.{List, [], ◌∷◌}
-use mathlib.Core.Option.{some}
 use borrow.Author.Tests.{not-true}
 use Rattle.lists.proofs.Tests.{split, clash, or_no}
 use Rattle.tapa.specs.Address.{multi}
@@ -29,7 +29,7 @@ record Alike (desk : Desk) (v w : View) : Type 0 where
 -- ---- a step of the desk, in both views
 
 module _ (desk : Desk) (v w : View) (a : Alike desk v w) (c : Step) (i : KeepsTo desk w c) where
-  its-thread : (t : ℕ) → thread_of c ≡ some t → part (of_thread t) v.places ≡ part (of_thread t) w.places
+  its-thread : (t : ℕ) → thread_of c ≡ Some t → part (of_thread t) v.places ≡ part (of_thread t) w.places
   its-thread t e = a.threads t (i.thread t e)
 
   as-busy : BusySame v w a.rows (thread_of c) (asks_of c)

@@ -1,10 +1,10 @@
 -- Two desks that share the security module '0001', computed: the premise holds, and either order is the same.
 use Prim.Native.Nat.{ℕ, ◌≤◌}
+use Rattle.std.specs.Prelude.{Some}
 use mathlib.Core.Path.{◌≡◌, refl, sym, ◌∙◌}
 use mathlib.Core.Logic.{inl, inr}
 use mathlib.Core.Bool.{Bool, true, false, not}
 use mathlib.Core.List.{List, [], ◌∷◌}
-use mathlib.Core.Option.{some}
 use native.Mathlib.Omega.{arith}
 use lib.Dec.{eqb, ltb}
 use lib.ListN.{replicate}
@@ -55,7 +55,7 @@ asking = says 0x0202 0x0001 0x45 3
 abbrev giving : Step
 giving = give_up 4 0x0204 ten
 
-pub two-threads : (t : ℕ) → some 3 ≡ some t → some 4 ≡ some t → ⊥
+pub two-threads : (t : ℕ) → Some 3 ≡ Some t → Some 4 ≡ Some t → ⊥
 two-threads t p q = let e : ◌≡◌ {A = ℕ} 3 t = cc in let f : ◌≡◌ {A = ℕ} 4 t = cc in omega arith
 
 -- the module is the only one that both name
@@ -162,10 +162,10 @@ separate = record { threads = λ t p q. halves (ltb t 4) p q; handlers = λ h p 
 
 -- a step is of a desk, where its thread, its source and its destination are
 module _ (desk : Desk) (v : View) (d s kind t : ℕ) where
-  of-desk : (thread_of (says d s kind t) ≡ some t) × (names_of v (says d s kind t) ≡ s ∷ d ∷ []) → desk.threads t ≡ true
+  of-desk : (thread_of (says d s kind t) ≡ Some t) × (names_of v (says d s kind t) ≡ s ∷ d ∷ []) → desk.threads t ≡ true
       → (desk.handlers s ≡ true) × (desk.handlers d ≡ true) → Steady v (says d s kind t) → OfDesk desk v (says d s kind t)
   of-desk told p q z = record {
-    thread = λ u e. let f : some t ≡ some u = sym told.0 ∙ e in let g : t ≡ u = cc in rw (← g) p;
+    thread = λ u e. let f : Some t ≡ Some u = sym told.0 ∙ e in let g : t ≡ u = cc in rw (← g) p;
     names = λ h i. named h (rw told.1 at i);
     steady = z;
   }
@@ -197,10 +197,10 @@ by-turns = record { one-its = one-its; two-its = two-its; alone = as-alone desk-
     )
 
 -- and both desks may report events, though '0700' is of neither category: such a step asks nobody, and makes nobody busy
-keeps-to : (desk : Desk) (reader t : ℕ) → desk.threads t ≡ true → thread_of (reporting reader t) ≡ some t → asks_of (reporting reader t) ≡ []
+keeps-to : (desk : Desk) (reader t : ℕ) → desk.threads t ≡ true → thread_of (reporting reader t) ≡ Some t → asks_of (reporting reader t) ≡ []
     → moves_of (outcome_of (fresh rows) (reporting reader t)) ≡ [] → (after (fresh rows) (reporting reader t)).rows ≡ rows → KeepsTo desk (fresh rows) (reporting reader t)
 keeps-to desk reader t p k a m r = record {
-  thread = λ u e. let f : some t ≡ some u = sym k ∙ e in let g : t ≡ u = cc in rw (← g) p;
+  thread = λ u e. let f : Some t ≡ Some u = sym k ∙ e in let g : t ≡ u = cc in rw (← g) p;
   asks = λ h i. absurd (nobody (asks_of (reporting reader t)) a h i);
   moves = λ h i. absurd (nobody (moves_of (outcome_of (fresh rows) (reporting reader t))) m h i);
   gives = λ h i. absurd i;

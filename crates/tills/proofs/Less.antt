@@ -1,10 +1,10 @@
 -- Two steps that leave alone what the other looks at: either order is the same.
 use Prim.Native.Nat.{ℕ, ◌≤◌}
+use Rattle.std.specs.Prelude.{Option, Some, None}
 use mathlib.Core.Path.{◌≡◌, refl, sym, ap, ◌∙◌}
 use mathlib.Core.Logic.{◌⊎◌, inl, inr, ⊎_elim}
 use mathlib.Core.Bool.{Bool, true, false}
 use mathlib.Core.List.{List}
-use mathlib.Core.Option.{Option, none, some}
 use lib.Dec.{eqb}
 use lib.ListN.{length}
 use borrow.Author.Tests.{le-leb, eqb-true, eqb-false}
@@ -36,10 +36,10 @@ unfolding category_of multi
 multi-by-category h e = le-leb _ _ e
 
 -- a thread is that of a step or not
-thread-or-not : (o : Option ℕ) (t : ℕ) → (o ≡ some t) ⊎ (o ≡ some t → ⊥)
-thread-or-not none t = inr (λ e. differ (cc))
-thread-or-not (some u) t =
-    split (eqb u t) (λ p. inl (ap some (eqb-true u t p))) (λ p. inr (λ e. eqb-false u t p (let z : u ≡ t = cc in z)))
+thread-or-not : (o : Option ℕ) (t : ℕ) → (o ≡ Some t) ⊎ (o ≡ Some t → ⊥)
+thread-or-not None t = inr (λ e. differ (cc))
+thread-or-not (Some u) t =
+    split (eqb u t) (λ p. inl (ap Some (eqb-true u t p))) (λ p. inr (λ e. eqb-false u t p (let z : u ≡ t = cc in z)))
 
 -- ---- a thread's places tell its tree and its owings
 
@@ -56,7 +56,7 @@ module _ (t : ℕ) (l m : List Place) (e : part (of_thread t) l ≡ part (of_thr
 -- ---- the second step, after the first and without it
 
 module _ (v : View) (c d : Step) (n : DifferentThreads c d) (l : LeavesAlone v c d) where
-  its-thread : (t : ℕ) → thread_of d ≡ some t → part (of_thread t) (after v c).places ≡ part (of_thread t) v.places
+  its-thread : (t : ℕ) → thread_of d ≡ Some t → part (of_thread t) (after v c).places ≡ part (of_thread t) v.places
   its-thread t e = thread-left v c t (λ f. n t f e)
 
   as-busy : BusySame (after v c) v l.marks (thread_of d) (asks_of d)
@@ -79,7 +79,7 @@ module _ (v : View) (c d : Step) (n : DifferentThreads c d) (l : LeavesAlone v c
 
 -- off the first step's thread, the places after both are those after the second alone
 places-off : (v : View) (c d : Step) → outcome_of (after v c) d ≡ outcome_of v d
-    → (t : ℕ) → (thread_of c ≡ some t → ⊥) → part (of_thread t) (after (after v c) d).places ≡ part (of_thread t) (after v d).places
+    → (t : ℕ) → (thread_of c ≡ Some t → ⊥) → part (of_thread t) (after (after v c) d).places ≡ part (of_thread t) (after v d).places
 places-off v c d e t n =
     ap (λ (o : Outcome). part (of_thread t) (places_after o (after v c).places)) e
     ∙ part_same (of_thread t) (after v c).places v.places (thread-left v c t n) (outcome_of v d)
@@ -89,8 +89,8 @@ module _ (v : View) (c d : Step) (n : DifferentThreads c d) (e : outcome_of (aft
   places-both : (t : ℕ) → part (of_thread t) (after (after v c) d).places ≡ part (of_thread t) (after (after v d) c).places
   places-both t =
       ⊎_elim
-      (λ (p : thread_of d ≡ some t). places-off v c d e t (λ q. n t q p) ∙ sym (thread-left (after v d) c t (λ q. n t q p)))
-      (λ (p : thread_of d ≡ some t → ⊥). thread-left (after v c) d t p ∙ sym (places-off v d c f t p))
+      (λ (p : thread_of d ≡ Some t). places-off v c d e t (λ q. n t q p) ∙ sym (thread-left (after v d) c t (λ q. n t q p)))
+      (λ (p : thread_of d ≡ Some t → ⊥). thread-left (after v c) d t p ∙ sym (places-off v d c f t p))
       (thread-or-not (thread_of d) t)
 
   both-orders : (after (after v c) d).rows ≡ (after (after v d) c).rows → Undisturbed v c d

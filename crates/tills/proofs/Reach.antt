@@ -1,10 +1,12 @@
 -- How far a step reaches: what its outcome touches is on the step's thread, and asked of a handler that the step names.
 use Prim.Native.Nat.{ℕ}
+use Rattle.tapa.specs.declared.Refusal.{Refusal}
+use Rattle.message.specs.declared.Head.{Head}
+use Rattle.std.specs.Prelude.{Result, Ok, Err, Option, Some, None}
 use mathlib.Core.Path.{◌≡◌, refl, ap, ◌∙◌}
 use mathlib.Core.Logic.{◌⊎◌, inl, inr}
 use mathlib.Core.Bool.{true, false, ◌||◌}
 use mathlib.Core.List.{List, [], ◌∷◌}
-use mathlib.Core.Option.{Option, none, some}
 use lib.Dec.{eqb}
 use borrow.Author.Tests.{eqb-true, ne_eqb}
 use lib.ListN.{length}
@@ -13,9 +15,6 @@ use Rattle.lists.proofs.Tests.{split, clash, or_no}
 use Rattle.lists.proofs.Members.{in_one}
 use Rattle.tapa.specs.Address.{handler_of}
 use Rattle.tapa.specs.Codes.{response, successful, open_handler, close_handler}
-use Rattle.message.specs.declared.Reading.{Reading}
-use Rattle.message.specs.declared.Reading.TheVariants.{Message, Refused as Unread}
-use Rattle.message.specs.declared.Coded.{Coded}
 use Rattle.message.specs.Message.{read_of, part_of, code_of}
 use Rattle.table.specs.declared.Row.{Row}
 use Rattle.place.specs.declared.Place.{Place}
@@ -36,12 +35,12 @@ use Rattle.tills.specs.Less.{read_asks, asks_of, moves_of}
 -- ---- what the outcome of a step is about: a wait or an owing of the step's thread, asked of a handler that it names or gives up, or none at all
 
 abbrev About : (thread : Option ℕ) (names gives : List ℕ) → Outcome → Type 0
-About t names gives (Passed asker asked kind u) = (t ≡ some u) × In (handler_of asked) names
-About t names gives (Answered asked asker u k) = (t ≡ some u) × In (handler_of asked) names
-About t names gives (Swallowed asked u) = (t ≡ some u) × In (handler_of asked) names
+About t names gives (Passed asker asked kind u) = (t ≡ Some u) × In (handler_of asked) names
+About t names gives (Answered asked asker u k) = (t ≡ Some u) × In (handler_of asked) names
+About t names gives (Swallowed asked u) = (t ≡ Some u) × In (handler_of asked) names
 About t names gives Event = Unit {0}
 About t names gives (Turned asker asked u k) = Unit {0}
-About t names gives (Given asker asked u) = (t ≡ some u) × In (handler_of asked) gives
+About t names gives (Given asker asked u) = (t ≡ Some u) × In (handler_of asked) gives
 About t names gives (Reset h) = ⊥
 About t names gives (Refused r) = Unit {0}
 
@@ -55,19 +54,19 @@ refused-about t names gives (Given asker asked u) e = clash false e refl
 refused-about t names gives (Reset h) e = clash false e refl
 refused-about t names gives (Refused r) e = tt
 
-read-about : (r : Reading) (code : Coded) (o : Outcome) → ReadSays r code o → About (read_thread r) (read_names r) [] o
-read-about (Unread z) code o s = refused-about none [] [] o s
-read-about (Message h) code (Passed asker asked kind u) s = (ap some s.3, inr (inl (ap handler_of s.1)))
-read-about (Message h) code (Answered asked asker u k) s = (ap some s.3, inl (ap handler_of s.1))
-read-about (Message h) code (Swallowed asked u) s = (ap some s.2, inl (ap handler_of s.1))
-read-about (Message h) code Event s = tt
-read-about (Message h) code (Turned asker asked u k) s = tt
-read-about (Message h) code (Given asker asked u) s = absurd s
-read-about (Message h) code (Reset a) s = absurd s
-read-about (Message h) code (Refused z) s = tt
+read-about : (r : Result Head Refusal) (code : Option ℕ) (o : Outcome) → ReadSays r code o → About (read_thread r) (read_names r) [] o
+read-about (Err z) code o s = refused-about None [] [] o s
+read-about (Ok h) code (Passed asker asked kind u) s = (ap Some s.3, inr (inl (ap handler_of s.1)))
+read-about (Ok h) code (Answered asked asker u k) s = (ap Some s.3, inl (ap handler_of s.1))
+read-about (Ok h) code (Swallowed asked u) s = (ap Some s.2, inl (ap handler_of s.1))
+read-about (Ok h) code Event s = tt
+read-about (Ok h) code (Turned asker asked u k) s = tt
+read-about (Ok h) code (Given asker asked u) s = absurd s
+read-about (Ok h) code (Reset a) s = absurd s
+read-about (Ok h) code (Refused z) s = tt
 
-given-about : (t a : ℕ) (o : Outcome) → GivesUp t a o → About (some t) (given_names o) (given_names o) o
-given-about t a o (inl e) = refused-about (some t) (given_names o) (given_names o) o e
+given-about : (t a : ℕ) (o : Outcome) → GivesUp t a o → About (Some t) (given_names o) (given_names o) o
+given-about t a o (inl e) = refused-about (Some t) (given_names o) (given_names o) o e
 given-about t a o (inr s) = rw s.1 (refl, inr (inl refl))
 
 about : (v : View) (c : Step) → About (thread_of c) (names_of v c) (gives_of v c) (outcome_of v c)
@@ -78,20 +77,20 @@ about v (give_up t a buffer) = given-about t a _ (says v (length buffer) (rules.
 
 answered-rows : (w : Option Place) (k : ℕ) (rows : List Row) → wait_commands w ≡ false → answered_rows w k rows ≡ rows
 unfolding answered_rows
-answered-rows none k rows n = refl
-answered-rows (some w) k rows n =
+answered-rows None k rows n = refl
+answered-rows (Some w) k rows n =
     let f = or_no (eqb w.kind open_handler) (eqb w.kind close_handler) n in
     rw (f.0, f.1) (split (eqb k successful) (λ p. rw p) (λ p. rw p))
 
 module _ (t : Option ℕ) (names gives : List ℕ) where
   -- a thread that it touches is the step's
-  thread-is : (o : Outcome) → About t names gives o → (u : ℕ) → touches (of_thread u) o ≡ true → t ≡ some u
-  thread-is (Passed asker asked kind x) s u e = s.0 ∙ ap some (eqb-true x u e)
-  thread-is (Answered asked asker x k) s u e = s.0 ∙ ap some (eqb-true x u e)
-  thread-is (Swallowed asked x) s u e = s.0 ∙ ap some (eqb-true x u e)
+  thread-is : (o : Outcome) → About t names gives o → (u : ℕ) → touches (of_thread u) o ≡ true → t ≡ Some u
+  thread-is (Passed asker asked kind x) s u e = s.0 ∙ ap Some (eqb-true x u e)
+  thread-is (Answered asked asker x k) s u e = s.0 ∙ ap Some (eqb-true x u e)
+  thread-is (Swallowed asked x) s u e = s.0 ∙ ap Some (eqb-true x u e)
   thread-is Event s u e = clash false e refl
   thread-is (Turned asker asked x k) s u e = clash false e refl
-  thread-is (Given asker asked x) s u e = s.0 ∙ ap some (eqb-true x u e)
+  thread-is (Given asker asked x) s u e = s.0 ∙ ap Some (eqb-true x u e)
   thread-is (Reset h) s u e = absurd s
   thread-is (Refused r) s u e = clash false e refl
 
@@ -155,11 +154,11 @@ module _ (h t : ℕ) (l : List Place) where
 pub asks-named : (v : View) (d : Step) (h : ℕ) → In h (asks_of d) → In h (names_of v d)
 asks-named v (message s buffer) h i = go (read_of s) i
   where
-    go : (r : Reading) → In h (read_asks r) → In h (read_names r)
-    go (Message x) j =
+    go : (r : Result Head Refusal) → In h (read_asks r) → In h (read_names r)
+    go (Ok x) j =
         split (eqb x.kind response || is_add_event x) (λ p. let z : In h [] = rw p at j in absurd z)
         (λ p. let z : In h (handler_of x.destination ∷ []) = rw p at j in inr z)
-    go (Unread r) j = j
+    go (Err r) j = j
 asks-named v (give_up t a buffer) h i = absurd i
 
 pub gives-named : (v : View) (d : Step) (h : ℕ) → In h (gives_of v d) → In h (names_of v d)
@@ -170,7 +169,7 @@ gives-named v (give_up t a buffer) h i = i
 
 module _ (v : View) (c : Step) where
   -- a thread that it touches is its own
-  pub thread-its : (u : ℕ) → touches (of_thread u) (outcome_of v c) ≡ true → thread_of c ≡ some u
+  pub thread-its : (u : ℕ) → touches (of_thread u) (outcome_of v c) ≡ true → thread_of c ≡ Some u
   thread-its u e = thread-is (thread_of c) (names_of v c) (gives_of v c) (outcome_of v c) (about v c) u e
 
   -- a handler that it touches is made busy, freed or given up
@@ -186,7 +185,7 @@ module _ (v : View) (c : Step) where
   steady-rows s = rows_left (thread_of c) (names_of v c) (gives_of v c) v (outcome_of v c) (about v c) s.1
 
   -- the places of another thread are left
-  pub thread-left : (u : ℕ) → (thread_of c ≡ some u → ⊥) → part (of_thread u) (after v c).places ≡ part (of_thread u) v.places
+  pub thread-left : (u : ℕ) → (thread_of c ≡ Some u → ⊥) → part (of_thread u) (after v c).places ≡ part (of_thread u) v.places
   thread-left u n =
       part_left (of_thread u) (outcome_of v c) (split (touches (of_thread u) (outcome_of v c)) (λ p. absurd (n (thread-its u p))) (λ p. p)) v.places
 

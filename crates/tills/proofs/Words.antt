@@ -1,10 +1,10 @@
 -- The premise asks for what the request's sentences say of a step: no less, and no more.
 use Prim.Native.Nat.{ℕ, ◌≤◌}
+use Rattle.std.specs.Prelude.{Ok, Err, Some, None}
 use mathlib.Core.Path.{◌≡◌, refl, ap, ◌∙◌}
 use mathlib.Core.Logic.{◌⊎◌, inl, inr}
 use mathlib.Core.Bool.{true, false}
 use mathlib.Core.List.{List, [], ◌∷◌}
-use mathlib.Core.Option.{none, some}
 use lib.Dec.{eqb}
 use lib.ListN.{length}
 use borrow.Author.Tests.{eqb-true}
@@ -14,7 +14,6 @@ use Rattle.tapa.specs.Address.{category_of, handler_of}
 use Rattle.tapa.specs.Codes.{open_handler, close_handler}
 use Rattle.tapa.specs.declared.Refusal.{Refusal}
 use Rattle.message.specs.declared.Head.{Head}
-use Rattle.message.specs.declared.Reading.TheVariants.{Message, Refused as Unread}
 use Rattle.message.specs.Message.{read_of}
 use Rattle.place.specs.declared.Place.{Place}
 use Rattle.rules.specs.View.{View}
@@ -28,8 +27,8 @@ use Rattle.tills.specs.Tills.{Step, message, give_up, outcome_of, thread_of, nam
 
 -- ---- a message
 
-module _ (v : View) (s buffer : List ℕ) (h : Head) (e : read_of s ≡ Message h) where
-  pub message-thread : thread_of (message s buffer) ≡ some h.thread
+module _ (v : View) (s buffer : List ℕ) (h : Head) (e : read_of s ≡ Ok h) where
+  pub message-thread : thread_of (message s buffer) ≡ Some h.thread
   message-thread = rw e
 
   -- 'as source or destination'
@@ -40,8 +39,8 @@ module _ (v : View) (s buffer : List ℕ) (h : Head) (e : read_of s ≡ Message 
   pub message-commands : commands_one (message s buffer) ≡ opens_or_closes h.kind
   message-commands = rw e
 
-module _ (v : View) (s buffer : List ℕ) (r : Refusal) (e : read_of s ≡ Unread r) where
-  pub unread-thread : thread_of (message s buffer) ≡ none
+module _ (v : View) (s buffer : List ℕ) (r : Refusal) (e : read_of s ≡ Err r) where
+  pub unread-thread : thread_of (message s buffer) ≡ None
   unread-thread = rw e
 
   pub unread-names : names_of v (message s buffer) ≡ []
@@ -64,7 +63,7 @@ closing = refl
 -- ---- 'or answers one'
 
 module _ (v : View) (o : Outcome) where
-  pub answered-one : (asked asker t k : ℕ) (w : Place) → o ≡ Answered asked asker t k → answerable v.places asked t ≡ some w → answers_one v o ≡ opens_or_closes w.kind
+  pub answered-one : (asked asker t k : ℕ) (w : Place) → o ≡ Answered asked asker t k → answerable v.places asked t ≡ Some w → answers_one v o ≡ opens_or_closes w.kind
   answered-one asked asker t k w e f = ap (answers_one v) e ∙ ap wait_commands f
 
 -- whatever is not answered answers none: what is swallowed does not, nor what is refused
@@ -81,7 +80,7 @@ answers-none v (Refused r) n = refl
 -- ---- a give up
 
 module _ (v : View) (t a : ℕ) (buffer : List ℕ) where
-  pub give-up-thread : thread_of (give_up t a buffer) ≡ some t
+  pub give-up-thread : thread_of (give_up t a buffer) ≡ Some t
   give-up-thread = refl
 
   -- 'as asker or asked of the wait given up'
@@ -104,7 +103,7 @@ module _ (v : View) (t a : ℕ) (buffer : List ℕ) where
 -- ---- the whole premise is these, and nothing beside them
 
 pub premise-by : (v : View) (c d : Step)
-    → ((t : ℕ) → thread_of c ≡ some t → thread_of d ≡ some t → ⊥)
+    → ((t : ℕ) → thread_of c ≡ Some t → thread_of d ≡ Some t → ⊥)
     → ((h : ℕ) → In h (names_of v c) → In h (names_of v d) → category_of h ≤ 1)
     → (commands_one c ≡ false) × (commands_one d ≡ false)
     → (answers_one v (outcome_of v c) ≡ false) × (answers_one v (outcome_of v d) ≡ false)

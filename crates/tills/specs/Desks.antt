@@ -1,6 +1,5 @@
 -- Two whole lists of steps, one on desk one's threads and one on desk two's, interleaved in any way.
-use Rattle.std.specs.Prelude.{ℕ, ◌≤◌, ◌≡◌, Bool, true, not, ◌||◌, List, [], ◌∷◌}
-use Rattle.std.proofs.Math.Option.{some}
+use Rattle.std.specs.Prelude.{ℕ, ◌≤◌, ◌≡◌, Bool, true, not, ◌||◌, List, [], ◌∷◌, Some}
 use Rattle.lists.specs.Lists.{In}
 use Rattle.tapa.specs.Address.{category_of}
 use Rattle.rules.specs.View.{View}
@@ -20,14 +19,14 @@ pub record Separate (one two : Desk) : Type 0 where
 
 -- a step of a desk: it is on a thread of the desk, names handlers of the desk alone, and opens or closes nobody
 pub record OfDesk (desk : Desk) (v : View) (c : Step) : Type 0 where
-  pub thread : (t : ℕ) → thread_of c ≡ some t → desk.threads t ≡ true
+  pub thread : (t : ℕ) → thread_of c ≡ Some t → desk.threads t ≡ true
   pub names : (h : ℕ) → In h (names_of v c) → desk.handlers h ≡ true
   pub steady : Steady v c
 
 -- less is enough: of the handlers that it names, those that it asks, those that it makes busy or frees, and the two of a wait that it gives up; and
 -- it moves no open mark. So both desks may report events.
 pub record KeepsTo (desk : Desk) (v : View) (c : Step) : Type 0 where
-  pub thread : (t : ℕ) → thread_of c ≡ some t → desk.threads t ≡ true
+  pub thread : (t : ℕ) → thread_of c ≡ Some t → desk.threads t ≡ true
   pub asks : (h : ℕ) → In h (asks_of c) → desk.handlers h ≡ true
   pub moves : (h : ℕ) → In h (moves_of (outcome_of v c)) → desk.handlers h ≡ true
   pub gives : (h : ℕ) → In h (gives_of v c) → desk.handlers h ≡ true

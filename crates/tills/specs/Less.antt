@@ -1,10 +1,10 @@
 -- Less than the request's premise: what it is enough for two steps to leave alone.
-use Rattle.std.specs.Prelude.{ℕ, ◌≤◌, ◌≡◌, ◌||◌, cond, List, [], ◌∷◌, eqb}
+use Rattle.std.specs.Prelude.{ℕ, ◌≤◌, ◌≡◌, ◌||◌, cond, List, [], ◌∷◌, eqb, Result, Ok, Err}
+use Rattle.tapa.specs.declared.Refusal.{Refusal}
+use Rattle.message.specs.declared.Head.{Head}
 use Rattle.lists.specs.Lists.{In}
 use Rattle.tapa.specs.Address.{category_of, handler_of}
 use Rattle.tapa.specs.Codes.{response}
-use Rattle.message.specs.declared.Reading.{Reading}
-use Rattle.message.specs.declared.Reading.TheVariants.{Message, Refused as Unread}
 use Rattle.message.specs.Message.{read_of}
 use Rattle.rules.specs.View.{View}
 use Rattle.rules.specs.declared.Outcome.{Outcome}
@@ -13,9 +13,9 @@ use Rattle.rules.specs.Judge.{is_add_event}
 use Rattle.tills.specs.Tills.{Step, message, give_up, outcome_of, after, DifferentThreads}
 
 -- the handler that a command asks; a response asks nobody, nor does Add Event, nor do bytes that are no message
-abbrev pub read_asks : Reading → List ℕ
-read_asks (Message h) = cond (eqb h.kind response || is_add_event h) [] (handler_of h.destination ∷ [])
-read_asks (Unread r) = []
+abbrev pub read_asks : Result Head Refusal → List ℕ
+read_asks (Ok h) = cond (eqb h.kind response || is_add_event h) [] (handler_of h.destination ∷ [])
+read_asks (Err r) = []
 
 abbrev pub asks_of : Step → List ℕ
 asks_of (message s buffer) = read_asks (read_of s)

@@ -1,7 +1,6 @@
 -- None of the premise's three parts can be left out whole: there are two steps that meet the other two parts, and whose order shows.
-use Rattle.std.specs.Prelude.{◌≡◌, List}
+use Rattle.std.specs.Prelude.{◌≡◌, List, None, Ok}
 use Rattle.table.specs.declared.Row.{Row}
-use Rattle.table.specs.declared.Checked.TheVariants.{Accepted}
 use Rattle.table.specs.Table.{judge_table}
 use Rattle.rules.specs.View.{View, fresh}
 use Rattle.tills.specs.Tills.{Step, DifferentThreads, SharesOnlyMulti, Steady, Undisturbed}
@@ -10,7 +9,7 @@ use Rattle.tills.specs.Desks.{after_all}
 -- steps from a fresh router over an accepted table, and two more that meet P and disturb one another
 pub record NotEnough (P : View → Step → Step → Type 0) : Type 0 where
   pub rows : List Row
-  pub accepted : judge_table rows ≡ Accepted
+  pub accepted : judge_table rows ≡ Ok tt
   pub before : List Step
   pub one : Step
   pub other : Step

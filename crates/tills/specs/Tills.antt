@@ -1,11 +1,10 @@
 -- Two steps on different threads: 'Desk one and desk two run on different threads, and trainers want to say that one cannot disturb the other.'
-use Rattle.std.specs.Prelude.{ℕ, ◌≤◌, ◌≡◌, Bool, false, ◌||◌, ◌&&◌, List, [], ◌∷◌, eqb, length}
-use Rattle.std.proofs.Math.Option.{Option, none, some}
+use Rattle.std.specs.Prelude.{ℕ, ◌≤◌, ◌≡◌, Bool, false, ◌||◌, ◌&&◌, List, [], ◌∷◌, eqb, length, Result, Ok, Err, Option, Some, None}
+use Rattle.tapa.specs.declared.Refusal.{Refusal}
+use Rattle.message.specs.declared.Head.{Head}
 use Rattle.lists.specs.Lists.{keep, In}
 use Rattle.tapa.specs.Address.{category_of, handler_of}
 use Rattle.tapa.specs.Codes.{open_handler, close_handler}
-use Rattle.message.specs.declared.Reading.{Reading}
-use Rattle.message.specs.declared.Reading.TheVariants.{Message, Refused as Unread}
 use Rattle.message.specs.Message.{read_of}
 use Rattle.place.specs.declared.Place.{Place}
 use Rattle.places.specs.Places.{owed_on}
@@ -59,24 +58,24 @@ shown v c = shows c (outcome_of v c)
 -- ---- the premise: different threads
 
 -- bytes that do not read as a message are on no thread
-abbrev pub read_thread : Reading → Option ℕ
-read_thread (Message h) = some h.thread
-read_thread (Unread r) = none
+abbrev pub read_thread : Result Head Refusal → Option ℕ
+read_thread (Ok h) = Some h.thread
+read_thread (Err r) = None
 
 abbrev pub thread_of : Step → Option ℕ
 thread_of (message s buffer) = read_thread (read_of s)
-thread_of (give_up t a buffer) = some t
+thread_of (give_up t a buffer) = Some t
 
 -- 'on different threads': no thread is that of both
 abbrev pub DifferentThreads : Step → Step → Type 0
-DifferentThreads c d = (t : ℕ) → thread_of c ≡ some t → thread_of d ≡ some t → ⊥
+DifferentThreads c d = (t : ℕ) → thread_of c ≡ Some t → thread_of d ≡ Some t → ⊥
 
 -- ---- the premise: who is named
 
 -- 'as source or destination'; bytes that do not read as a message name nobody
-abbrev pub read_names : Reading → List ℕ
-read_names (Message h) = handler_of h.source ∷ handler_of h.destination ∷ []
-read_names (Unread r) = []
+abbrev pub read_names : Result Head Refusal → List ℕ
+read_names (Ok h) = handler_of h.source ∷ handler_of h.destination ∷ []
+read_names (Err r) = []
 
 -- 'as asker or asked of the wait given up'; a give up that is refused names nobody
 abbrev pub given_names : Outcome → List ℕ
@@ -109,13 +108,13 @@ abbrev pub opens_or_closes : ℕ → Bool
 opens_or_closes kind = eqb kind open_handler || eqb kind close_handler
 
 -- 'an Open or Close Handler command', whatever becomes of it
-abbrev pub read_commands : Reading → Bool
-read_commands (Message h) = opens_or_closes h.kind
-read_commands (Unread r) = false
+abbrev pub read_commands : Result Head Refusal → Bool
+read_commands (Ok h) = opens_or_closes h.kind
+read_commands (Err r) = false
 
 abbrev pub wait_commands : Option Place → Bool
-wait_commands none = false
-wait_commands (some w) = opens_or_closes w.kind
+wait_commands None = false
+wait_commands (Some w) = opens_or_closes w.kind
 
 -- 'or answers one', whatever code it answers with
 abbrev pub answers_one : View → Outcome → Bool

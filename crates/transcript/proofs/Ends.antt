@@ -1,5 +1,7 @@
 -- 'every line ends in LF': and nowhere else in a line is an LF, since every byte before it is 32 or more. Assumes nothing.
 use Prim.Native.Nat.{ℕ, zero, suc, ◌+◌, ◌/◌, ◌%◌, ◌≤◌}
+use Rattle.tapa.specs.declared.Refusal.{Refusal}
+use Rattle.std.specs.Prelude.{Result, Ok, Err, ⊤}
 use mathlib.Core.Path.{◌≡◌, refl, ap, sym, ◌∙◌}
 use mathlib.Core.Bool.{false}
 use mathlib.Core.List.{List, [], ◌∷◌, ◌++◌, map, append_assoc}
@@ -13,8 +15,6 @@ use Rattle.lists.proofs.Tests.{or_no, checks-are}
 use Rattle.tapa.specs.Refusals.{number_of}
 use Rattle.tapa.specs.Said.{Said, refused, says, Word}
 use Rattle.table.specs.declared.Row.{Row}
-use Rattle.table.specs.declared.Checked.{Checked}
-use Rattle.table.specs.declared.Checked.TheVariants.{Accepted, Refused as RefusedTable}
 use Rattle.table.specs.Table.{judge_table}
 use Rattle.rules.specs.Said.{said_outcome}
 use Rattle.fields.specs.Fields.{Steps, over, broken, then, Script, torn, begins, row-then, script_of, file_of}
@@ -140,9 +140,9 @@ steps-end rows past k over = (item-ends (Over _) tt, tt)
 steps-end rows past k (broken b) = (item-ends (Broken b) tt, tt)
 steps-end rows past k (then st m) = (item-ends (Came k _) tt, steps-end rows (called st ∷ past) (k + 1) m)
 
-checked-end : (c : Checked) (rows : List Row) (m : Steps) → All Line (map line_of (checked_items c rows m))
-checked-end Accepted rows m = steps-end rows [] 1 m
-checked-end (RefusedTable r) rows m = (item-ends (Refused r) tt, tt)
+checked-end : (c : Result ⊤ Refusal) (rows : List Row) (m : Steps) → All Line (map line_of (checked_items c rows m))
+checked-end (Ok tt) rows m = steps-end rows [] 1 m
+checked-end (Err r) rows m = (item-ends (Refused r) tt, tt)
 
 script-ends : (rows : List Row) (m : Script) → All Line (map line_of (script_items rows m))
 script-ends rows (torn n) = (item-ends (Broken n) tt, tt)

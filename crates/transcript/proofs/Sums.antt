@@ -1,13 +1,12 @@
 -- Made-up totals are no transcript: the last line of a session without a broken field has the totals of its history. Assumes nothing.
 use Prim.Native.Nat.{ℕ, ◌+◌, ◌≤◌, ◌<◌}
+use Rattle.std.specs.Prelude.{Ok, None}
 use mathlib.Core.Path.{◌≡◌, refl, ap, ◌∙◌}
 use mathlib.Core.List.{List, [], ◌∷◌, map}
-use mathlib.Core.Option.{none}
 use native.Mathlib.Omega.{arith}
 use lib.ListN.{length, drop}
 use borrow.Author.Tests.{lt-ltb, le-ltb}
 use Rattle.table.specs.declared.Row.{Row}
-use Rattle.table.specs.declared.Checked.TheVariants.{Accepted}
 use Rattle.table.specs.Table.{judge_table}
 use Rattle.fields.specs.Fields.{Steps, over, broken, then, broken_step, Script, torn, begins, row-then, file_of, script_of}
 use Rattle.history.specs.History.{Step}
@@ -18,14 +17,14 @@ use Rattle.transcript.specs.Prescribed.{line_with, line_of, prescribed}
 use Rattle.transcript.specs.Totals.{rows_there, steps_there, rows_in, steps_in, calls_of, how_many}
 
 -- a table that is accepted lets the steps come
-script-steps : (rows : List Row) (m : Script) → judge_table (rows_there rows m) ≡ Accepted → broken_step (steps_there m) ≡ none
+script-steps : (rows : List Row) (m : Script) → judge_table (rows_there rows m) ≡ Ok tt → broken_step (steps_there m) ≡ None
     → script_items rows m ≡ items_of (rows_there rows m) [] 1 (steps_there m)
 script-steps rows (torn n) e f = let z : ◌≡◌ {A = ℕ} 0 1 = cc in absurd (omega arith)
 script-steps rows (begins m) e f = rw e
 script-steps rows (row-then a o m) e f = script-steps (record { address = a; opened = o } ∷ rows) m e f
 
 -- after the lines of the steps one line is left
-last_of : (rows : List Row) (past : List Step) (k : ℕ) (m : Steps) → broken_step m ≡ none
+last_of : (rows : List Row) (past : List Step) (k : ℕ) (m : Steps) → broken_step m ≡ None
     → drop (how_many m) (map line_of (items_of rows past k m))
     ≡ totals_line (totals_after rows (calls_of past m)).accepted (totals_after rows (calls_of past m)).answered (totals_after rows (calls_of past m)).given
     (totals_after rows (calls_of past m)).waiting (totals_after rows (calls_of past m)).owing
@@ -36,7 +35,7 @@ last_of rows past k (broken b) e = let z : ◌≡◌ {A = ℕ} 0 1 = cc in absur
 last_of rows past k (then st m) e = last_of rows (called st ∷ past) (k + 1) m e
 
 -- of every input: the totals are those of the history of its steps
-pub totals : (s : List ℕ) → length s ≤ 65536 → judge_table (rows_in s) ≡ Accepted → broken_step (steps_in s) ≡ none
+pub totals : (s : List ℕ) → length s ≤ 65536 → judge_table (rows_in s) ≡ Ok tt → broken_step (steps_in s) ≡ None
     → drop (how_many (steps_in s)) (prescribed s)
     ≡ totals_line (totals_after (rows_in s) (calls_of [] (steps_in s))).accepted (totals_after (rows_in s) (calls_of [] (steps_in s))).answered
     (totals_after (rows_in s) (calls_of [] (steps_in s))).given (totals_after (rows_in s) (calls_of [] (steps_in s))).waiting

@@ -5,14 +5,14 @@ use Rattle.events.specs.Events.{command_of, judge}
 use Rattle.events.proofs.Handling.{refusing, obeyed}
 use Rattle.event_answers.proofs.serve.Goals as goal
 
-pub returns-in-Failed : goal.returns-in-Failed
-returns-in-Failed c = refusing (queue_of c.args.places.now c.args.stretch) _ _ _ c.requires (sym c.in-Failed.ensures)
+pub returns-in-Err : goal.returns-in-Err
+returns-in-Err c = refusing (queue_of c.args.places.now c.args.stretch) _ _ _ c.requires (sym c.in-Err.ensures)
 
-pub returns-in-Passed : goal.returns-in-Passed
-returns-in-Passed c =
+pub returns-in-Ok : goal.returns-in-Ok
+returns-in-Ok c =
     let q = queue_of c.args.places.now c.args.stretch in
     let es = events_in c.args.places.now c.args.stretch in
-    obeyed q _ _ _ _ _ _ _ (sym c.in-Passed.ensures)
-    (c.judge-outcome.ensures ∙ ap (judge es) (c.read_command-command.ensures ∙ ap (command_of c.in-Passed.head.kind) c.data_part.ensures.bytes))
+    obeyed q _ _ _ _ _ _ _ (sym c.in-Ok.ensures)
+    (c.judge-outcome.ensures ∙ ap (judge es) (c.read_command-command.ensures ∙ ap (command_of c.in-Ok.head.kind) c.data_part.ensures.bytes))
     c.apply-after.ensures
     c.answered-answer.ensures

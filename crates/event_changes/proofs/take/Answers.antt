@@ -15,19 +15,19 @@ returns-then-is_met c =
     rw (rest-left c.args.event _ s.start es there (sym c.if-is_met.ensures), goes_on c.args.event _ s.start es there (sym c.if-is_met.ensures), n) c.drop_oldest.ensures
 
 pub close_gap-requires-clause-newer_lt_count : goal.close_gap-requires-clause-newer_lt_count
-close_gap-requires-clause-newer_lt_count c = met-inside _ (queue_of c.args.places.now c.args.stretch) _ (sym c.in-At.ensures)
+close_gap-requires-clause-newer_lt_count c = met-inside _ (queue_of c.args.places.now c.args.stretch) _ (sym c.in-Some.ensures)
 
-pub returns-in-Nothing : goal.returns-in-Nothing
-returns-in-Nothing c =
+pub returns-in-None : goal.returns-in-None
+returns-in-None c =
     let s = c.args.stretch in
     let es = events_of (queue_of c.args.places.now s) in
     record {
-      holds = record { events = sym (find-none-without _ _ (sym c.in-Nothing.ensures)); law = c.requires };
+      holds = record { events = sym (find-none-without _ _ (sym c.in-None.ensures)); law = c.requires };
       begins = sym (stays c.args.event _ s.start es (sym c.in-One.ensures) (sym c.if-is_met.ensures));
     }
 
-pub returns-in-At : goal.returns-in-At
-returns-in-At c =
+pub returns-in-Some : goal.returns-in-Some
+returns-in-Some c =
     let s = c.args.stretch in
     let es = events_of (queue_of c.args.places.now s) in
-    rw (← end-found _ _ _ (sym c.in-At.ensures), stays c.args.event _ s.start es (sym c.in-One.ensures) (sym c.if-is_met.ensures)) c.close_gap.ensures
+    rw (← end-found _ _ _ (sym c.in-Some.ensures), stays c.args.event _ s.start es (sym c.in-One.ensures) (sym c.if-is_met.ensures)) c.close_gap.ensures

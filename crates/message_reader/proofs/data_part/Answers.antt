@@ -4,19 +4,19 @@ use Rattle.message.proofs.Laws.{long, all_left, part-of-message, part-of-none}
 use Rattle.message_reader.proofs.data_part.Goals as goal
 
 pub slice_bounds-result-count : goal.slice_bounds-result-count
-slice_bounds-result-count c = omega (arith, long c.args.message.now (sym c.in-Message.ensures))
+slice_bounds-result-count c = omega (arith, long c.args.message.now (sym c.in-Ok.ensures))
 
 pub slice_bounds-result-start : goal.slice_bounds-result-start
-slice_bounds-result-start c = omega (arith, long c.args.message.now (sym c.in-Message.ensures))
+slice_bounds-result-start c = omega (arith, long c.args.message.now (sym c.in-Ok.ensures))
 
-pub returns-in-Message : goal.returns-in-Message
-returns-in-Message c =
+pub returns-in-Ok : goal.returns-in-Ok
+returns-in-Ok c =
     let s = c.args.message.now in
-    let e = sym c.in-Message.ensures in
+    let e = sym c.in-Ok.ensures in
     record { bytes = all_left s ∙ sym (part-of-message s _ e); place = rw e }
 
-pub returns-in-Refused : goal.returns-in-Refused
-returns-in-Refused c =
+pub returns-in-Err : goal.returns-in-Err
+returns-in-Err c =
     let s = c.args.message.now in
-    let e = sym c.in-Refused.ensures in
+    let e = sym c.in-Err.ensures in
     record { bytes = sym (part-of-none s _ e); place = rw e }

@@ -6,4 +6,4 @@ use Rattle.record_commands.proofs.delete.Goals as goal
 
 pub erased-requires-clause-at_in_bounds : goal.erased-requires-clause-at_in_bounds
 erased-requires-clause-at_in_bounds c =
-    (hit no_entry (meant c.args.f c.args.p) (entries_of c.args.b) _ (sym c.in-At.ensures)).inside
+    (hit no_entry (meant c.args.f c.args.p) (entries_of c.args.b) _ (sym c.in-Some.ensures)).inside

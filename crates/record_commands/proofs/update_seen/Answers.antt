@@ -6,4 +6,4 @@ use Rattle.record_commands.proofs.update_seen.Goals as goal
 
 pub has_twin-requires-clause-at_bound : goal.has_twin-requires-clause-at_bound
 has_twin-requires-clause-at_bound c =
-    omega (arith, place_in c.args.b c.requires.shape (meant c.args.f c.args.p) c.in-At.i (sym c.in-At.ensures), c.requires.shape.few)
+    omega (arith, place_in c.args.b c.requires.shape (meant c.args.f c.args.p) c.in-Some.i (sym c.in-Some.ensures), c.requires.shape.few)

@@ -24,27 +24,27 @@ pub returns-then-not-is_listed-clause-on_message : goal.returns-then-not-is_list
 returns-then-not-is_listed-clause-on_message c =
     let r = c.requires in
     unstepped _ _ r.held _ _ r.column _ _ NotInTable _ c.refuse-then-not-is_listed.ensures
-    (message-unlisted _ _ _ c.if-reply-lt10.false _ c.read.ensures _ c.in-Message.is (told _ _ _ _ _ _ c.handler.ensures c.is_listed.ensures c.if-not-is_listed.true))
+    (message-unlisted _ _ _ c.if-reply-lt10.false _ c.read.ensures _ c.in-Ok.is (told _ _ _ _ _ _ c.handler.ensures c.is_listed.ensures c.if-not-is_listed.true))
 
 pub returns-then-head-gt7-clause-on_message : goal.returns-then-head-gt7-clause-on_message
 returns-then-head-gt7-clause-on_message c =
     let r = c.requires in
     unstepped _ _ r.held _ _ r.column _ _ ThreadAbove7 _ c.refuse-then-head-gt7.ensures
-    (message-thread _ _ _ c.if-reply-lt10.false _ c.read.ensures _ c.in-Message.is (told _ _ _ _ _ _ c.handler.ensures c.is_listed.ensures c.if-not-is_listed.false) c.if-head-gt7.true)
+    (message-thread _ _ _ c.if-reply-lt10.false _ c.read.ensures _ c.in-Ok.is (told _ _ _ _ _ _ c.handler.ensures c.is_listed.ensures c.if-not-is_listed.false) c.if-head-gt7.true)
 
 pub on_type-requires-clause-len_bound : goal.on_type-requires-clause-len_bound
 on_type-requires-clause-len_bound c = has_room c.args.cells.now c.args.count c.args.list.now c.args.len c.requires
 
-pub returns-in-Refused-clause-on_message : goal.returns-in-Refused-clause-on_message
-returns-in-Refused-clause-on_message c =
+pub returns-in-Err-clause-on_message : goal.returns-in-Err-clause-on_message
+returns-in-Err-clause-on_message c =
     let r = c.requires in
-    unstepped _ _ r.held _ _ r.column _ _ _ _ c.refuse-in-Refused.ensures
-    (message-unread _ _ _ c.if-reply-lt10.false _ c.read.ensures _ c.in-Refused.is)
+    unstepped _ _ r.held _ _ r.column _ _ _ _ c.refuse-in-Err.ensures
+    (message-unread _ _ _ c.if-reply-lt10.false _ c.read.ensures _ c.in-Err.is)
 
 pub returns-else-head-gt7-clause-on_message : goal.returns-else-head-gt7-clause-on_message
 returns-else-head-gt7-clause-on_message c =
     step-as _ _ _ _ _ _ _ _ _
-    (message-kind _ _ _ c.if-reply-lt10.false _ c.read.ensures _ c.in-Message.is (told _ _ _ _ _ _ c.handler.ensures c.is_listed.ensures c.if-not-is_listed.false) c.if-head-gt7.false)
+    (message-kind _ _ _ c.if-reply-lt10.false _ c.read.ensures _ c.in-Ok.is (told _ _ _ _ _ _ c.handler.ensures c.is_listed.ensures c.if-not-is_listed.false) c.if-head-gt7.false)
     c.on_type.ensures
 
 pub returns-else-head-gt7-clause-lawful : goal.returns-else-head-gt7-clause-lawful

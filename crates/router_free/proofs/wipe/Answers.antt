@@ -8,4 +8,4 @@ use Rattle.router_free.proofs.wipe.Goals as goal
 pub wipe_row-requires : goal.wipe_row-requires
 wipe_row-requires c =
     let a = c.args in
-    omega (arith, c.requires, len unpack a.cells.now a.count, find-inside (is_at a.handler) (rows_of a.cells.now a.count) _ (sym c.in-At.ensures))
+    omega (arith, c.requires, len unpack a.cells.now a.count, find-inside (is_at a.handler) (rows_of a.cells.now a.count) _ (sym c.in-Some.ensures))

@@ -5,12 +5,12 @@ use Rattle.routing.proofs.Steps.{unplaced}
 use Rattle.routing.proofs.Responses.{swallows, strays}
 use Rattle.router_response.proofs.on_late.Goals as goal
 
-pub returns-in-At : goal.returns-in-At
-returns-in-At c =
+pub returns-in-Some : goal.returns-in-Some
+returns-in-Some c =
     let a = c.args in
-    swallows a.list.now a.len a.head _ _ _ (sym c.find_owed.ensures ∙ c.in-At.is) c.remove-less.ensures
+    swallows a.list.now a.len a.head _ _ _ (sym c.find_owed.ensures ∙ c.in-Some.is) c.remove-less.ensures
 
-pub returns-in-Nothing : goal.returns-in-Nothing
-returns-in-Nothing c =
+pub returns-in-None : goal.returns-in-None
+returns-in-None c =
     let a = c.args in
-    unplaced _ _ c.requires _ StrayResponse _ c.refuse.ensures (strays a.list.now a.len a.head (sym c.find_owed.ensures ∙ c.in-Nothing.is))
+    unplaced _ _ c.requires _ StrayResponse _ c.refuse.ensures (strays a.list.now a.len a.head (sym c.find_owed.ensures ∙ c.in-None.is))

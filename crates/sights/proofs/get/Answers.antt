@@ -5,4 +5,4 @@ use Rattle.sights.proofs.get.Goals as goal
 
 pub other_pointer-requires-clause-i_bound : goal.other_pointer-requires-clause-i_bound
 other_pointer-requires-clause-i_bound c =
-    omega (arith, seek-inside c.args.b c.args.f c.args.p c.args.o c.requires c.in-At.i (sym c.in-At.ensures), c.requires.few)
+    omega (arith, seek-inside c.args.b c.args.f c.args.p c.args.o c.requires c.in-Some.i (sym c.in-Some.ensures), c.requires.few)

@@ -8,14 +8,14 @@ use Rattle.store.proofs.Handling.{obeyed, passed-room, refusing, start_fits, sta
 use Rattle.store.specs.Store.{Deed, Did, deed_of}
 use Rattle.store_answers.proofs.handle.Goals as goal
 
-pub returns-in-Failed : goal.returns-in-Failed
-returns-in-Failed c = refusing c.args.b c.args.area.now c.args.message.now c.args.reply.now _ c.requires (sym c.in-Failed.ensures)
+pub returns-in-Err : goal.returns-in-Err
+returns-in-Err c = refusing c.args.b c.args.area.now c.args.message.now c.args.reply.now _ c.requires (sym c.in-Err.ensures)
 
-pub returns-in-Passed : goal.returns-in-Passed
-returns-in-Passed c =
+pub returns-in-Ok : goal.returns-in-Ok
+returns-in-Ok c =
     let a = c.args in
-    let h = c.in-Passed.head in
-    let e = sym c.in-Passed.ensures in
+    let h = c.in-Ok.head in
+    let e = sym c.in-Ok.ensures in
     let deed = deed_of h.kind (part_of a.message.now) a.b a.area.now in
     let same : deed_of h.kind c.data_part.result.now a.b a.area.now ≡ deed = ap (λ (q : List ℕ). deed_of h.kind q a.b a.area.now) c.data_part.ensures.bytes in
     let body = c.obey-done.new.body in

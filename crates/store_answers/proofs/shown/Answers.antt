@@ -1,6 +1,6 @@
 -- The record and its code.
 use Rattle.std.proofs.Common.{◌≡◌, ◌≤◌, ◌+◌, ◌-◌, ◌++◌, length, get_or, ap, refl, ◌∙◌, arith, length-append, eq-eqb}
-use Rattle.std.proofs.Math.Option.{some}
+use Rattle.std.specs.Prelude.{Some}
 use Rattle.book.proofs.Laws.{row-limits}
 use Rattle.book.specs.Book.{Fits, entries_of, no_entry, rec_of}
 use Rattle.book.specs.declared.Entry.{Entry}
@@ -17,7 +17,7 @@ returns c =
     let a = c.args in
     let s = c.requires in
     let x = c.entry_at.result in
-    let p = sight_bytes (some (rec_of a.area.now x)) a.got.other in
+    let p = sight_bytes (Some (rec_of a.area.now x)) a.got.other in
     let v = c.put_record-n.ensures in
     let w = c.put_word.ensures in
     let z : a.got.code ≡ 0 = c.if-code-ne-SUCCESSFUL.false in
@@ -31,7 +31,7 @@ returns c =
     then a.body.now p (two_bytes a.got.code) c.put_record-n.new.body c.put_word.new.body c.put_record-n.result v.1 (omega (arith, v.0, n)) w.1 (omega (arith, n, k, d, s.in_bounds)) in
     rw (eq-eqb a.got.code 0 z)
     (record {
-      long = omega (arith, v.0, w.0, n, length-append p (two_bytes 0), ap (λ (y : Entry). length (sight_bytes (some (rec_of a.area.now y)) a.got.other ++ two_bytes 0)) e);
+      long = omega (arith, v.0, w.0, n, length-append p (two_bytes 0), ap (λ (y : Entry). length (sight_bytes (Some (rec_of a.area.now y)) a.got.other ++ two_bytes 0)) e);
       next = refl;
-      body = two ∙ over-start a.body.now (p ++ two_bytes a.got.code) ∙ (λ i. onto (sight_bytes (some (rec_of a.area.now (e i))) a.got.other ++ two_bytes (z i)) a.body.now);
+      body = two ∙ over-start a.body.now (p ++ two_bytes a.got.code) ∙ (λ i. onto (sight_bytes (Some (rec_of a.area.now (e i))) a.got.other ++ two_bytes (z i)) a.body.now);
     })

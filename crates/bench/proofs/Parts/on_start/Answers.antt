@@ -8,8 +8,8 @@ use Rattle.start.proofs.Starts.{start-law}
 use Rattle.bench.proofs.Parts.on_start.Goals as goal
 
 -- a router over an accepted table is lawful
-pub returns-in-Accepted : goal.returns-in-Accepted
-returns-in-Accepted c = record {
+pub returns-in-Ok : goal.returns-in-Ok
+returns-in-Ok c = record {
   queue = c.requires.queue;
   router = subst (λ (s : Started). router.Lawful s.router) (sym c.start_with-begun.ensures) (start-law _ c.requires.rows);
   rows = subst (λ (t : Rows). Held t) (sym c.no_rows-rows.ensures) none-held;
