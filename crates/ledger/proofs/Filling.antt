@@ -21,7 +21,7 @@ use Rattle.lines.specs.Lines.{broken_line, long_line}
 use Rattle.lists.proofs.Joined.{next-line}
 use Rattle.lists.proofs.Tests.{clash}
 use Rattle.lists.specs.Lists.{joined}
-use Rattle.store.specs.Store.{Result}
+use Rattle.store.specs.Store.{Answered}
 use Rattle.text.proofs.Laws.{more as after-it, puts-at, puts-inside, puts-length, puts_none}
 use Rattle.text.specs.Text.{Pen, pen, puts}
 
@@ -153,7 +153,7 @@ module _ {s old area₀ : List ℕ} {b₀ : Book} {at₀ n₀ : ℕ} {page area 
           → Going s old area₀ b₀ at₀ n₀ page' area' h.book next (n + 1) h.used (count + 1)
       page-turn area' h g =
           let i = next-inside s at (Message start next) e in
-          let w : Result = heard b area (between s start next) in
+          let w : Answered = heard b area (between s start next) in
           let l : List ℕ = line_of n w in
           let ls : List (List ℕ) = lines_at s b₀ area₀ at₀ n₀ in
           let rest : List (List ℕ) = lines_at s w.book w.area next (n + 1) in

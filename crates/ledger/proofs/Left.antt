@@ -14,7 +14,7 @@ use Rattle.ledger.specs.declared.Next.{Next}
 use Rattle.ledger.specs.declared.Next.TheVariants.{Broken, End, Message}
 use Rattle.lines.specs.Lines.{broken_line}
 use Rattle.lists.proofs.Tests.{clash}
-use Rattle.store.specs.Store.{Result}
+use Rattle.store.specs.Store.{Answered}
 
 -- from a place on, where a field of this number stands
 abbrev pub lines_at : List ℕ → Book → List ℕ → (at number : ℕ) → List (List ℕ)
@@ -30,14 +30,14 @@ module _ (s : List ℕ) (b : Book) (area : List ℕ) where
   lines_by n End = []
   lines_by n Broken = broken_line n ∷ []
   lines_by n (Message a e) =
-      let w : Result = heard b area (between s a e) in
+      let w : Answered = heard b area (between s a e) in
       line_of n w ∷ lines_at s w.book w.area e (n + 1)
 
   abbrev pub store_by : ℕ → ℕ → Next → Store
   store_by k n End = store b area
   store_by k n Broken = store b area
   store_by k n (Message a e) =
-      let w : Result = heard b area (between s a e) in
+      let w : Answered = heard b area (between s a e) in
       store_at k s w.book w.area e (n + 1)
 
   lines-by : (n : ℕ) (x : NextStep) → lines_of n b area (steps_by s n x) ≡ lines_by n (next_of x)

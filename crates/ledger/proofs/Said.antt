@@ -15,7 +15,7 @@ use Rattle.lines.specs.Lines.{counted, lf}
 use Rattle.lists.proofs.Onto.{prefix}
 use Rattle.lists.specs.Lists.{Bytes}
 use Rattle.store.proofs.Kept.{sound-kept}
-use Rattle.store.specs.Store.{Handling, Result, handled}
+use Rattle.store.specs.Store.{Handling, Answered, handled}
 use Rattle.store.specs.declared.Handled.{Handled}
 use Rattle.tapa.specs.Refusals.{number_of}
 use Rattle.text.proofs.Laws.{five-digits, hexes-length}
@@ -81,5 +81,5 @@ said-short n (Err r) reply h e =
       five-digits n h,
     )
 
-pub line-short : (n : ℕ) (w : Result) → n < 100000 → length w.reply ≡ 398 → length (line_of n w) ≤ 1024
+pub line-short : (n : ℕ) (w : Answered) → n < 100000 → length w.reply ≡ 398 → length (line_of n w) ≤ 1024
 line-short n w h e = said-short n w.answer w.reply h e

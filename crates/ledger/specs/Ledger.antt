@@ -14,7 +14,7 @@ use Rattle.ledger.specs.declared.Next.TheVariants.{Broken, End, Message}
 use Rattle.ledger.specs.declared.Page.{Page}
 use Rattle.lines.specs.Lines.{broken_line, long_line}
 use Rattle.lists.specs.Lists.{joined}
-use Rattle.store.specs.Store.{Result, handled}
+use Rattle.store.specs.Store.{Answered, handled}
 use Rattle.tapa.specs.Refusals.{number_of}
 use Rattle.text.specs.Text.{ascii, decimal_of, hexes_of, pen, puts}
 
@@ -34,10 +34,10 @@ unfoldable pub blank : List ℕ
 blank = replicate 398 0
 
 -- what a message comes to
-abbrev pub heard : Book → List ℕ → List ℕ → Result
+abbrev pub heard : Book → List ℕ → List ℕ → Answered
 heard b area bytes = handled b area bytes blank
 
-abbrev pub line_of : ℕ → Result → List ℕ
+abbrev pub line_of : ℕ → Answered → List ℕ
 line_of n w = said_line n w.answer w.reply
 
 -- ---- all lines of the steps of an input; n is the number of the first
@@ -103,7 +103,7 @@ pub record Counted (c : Cursor) : Type 0 where
   pub near : c.at ≤ 65536
 
 -- a message came to this: its line stands on the page, and the next store is the one it leaves; the reply buffer has its length still
-pub record Hearing (n : ℕ) (w : Result) (old : List ℕ) (at : ℕ) (area new : List ℕ) (h : Heard) : Type 0 where
+pub record Hearing (n : ℕ) (w : Answered) (old : List ℕ) (at : ℕ) (area new : List ℕ) (h : Heard) : Type 0 where
   pub text : pen new h.used ≡ puts (pen old at) (line_of n w)
   pub book : h.book ≡ w.book
   pub area' : area ≡ w.area

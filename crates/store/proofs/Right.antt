@@ -29,7 +29,7 @@ use Rattle.record_commands.proofs.Updates.{update-right}
 use Rattle.replies.specs.Replies.{answer_of, replied}
 use Rattle.sights.proofs.Sights.{find-right, get-right}
 use Rattle.store.specs.Plain.{Told, tells_after, told_of}
-use Rattle.store.specs.Store.{Deed, Result, add_deed, checked, clear_deed, code_deed, create_deed, deed_if, deed_of, delete_deed, delete_files_deed, find_deed, find_delete_deed, get_deed, handled, ids_part, made_deed, mark_deed, obeys, update_deed}
+use Rattle.store.specs.Store.{Deed, Answered, add_deed, checked, clear_deed, code_deed, create_deed, deed_if, deed_of, delete_deed, delete_files_deed, find_deed, find_delete_deed, get_deed, handled, ids_part, made_deed, mark_deed, obeys, update_deed}
 use Rattle.tapa.specs.Codes.{add_record, clear_file, close_handler, create_file, delete_file, delete_record, find_and_delete, find_record, get_record, open_handler, successful, unsupported_operation, update_record}
 use Rattle.tapa.specs.Numbers.{two_bytes, word_at}
 
@@ -197,7 +197,7 @@ module _ (b : Book) (area : List ℕ) (law : Lawful b area) where
 
   -- ---- a whole message
 
-  pub record AsPlain (w : Result) (t : Told) : Type 0 where
+  pub record AsPlain (w : Answered) (t : Told) : Type 0 where
     pub answer : w.answer ≡ t.answer
     pub files : view_of w.book w.area ≡ t.files
     pub reply : w.reply ≡ t.reply

@@ -129,24 +129,24 @@ deed_of kind part b area =
 -- ---- all of it
 
 -- what a message comes to: the answer, the next book, and the whole lent memory
-pub record Result : Type 0 where
+pub record Answered : Type 0 where
   pub answer : Result (Option ℕ) Refusal
   pub book : Book
   pub area : List ℕ
   pub reply : List ℕ
 
 -- 'A refusal returns its number only and changes nothing'
-abbrev pub refuses : Refusal → Book → List ℕ → List ℕ → Result
+abbrev pub refuses : Refusal → Book → List ℕ → List ℕ → Answered
 refuses r b area reply = record { answer = Err r; book = b; area = area; reply = reply }
 
-abbrev pub does : Head → Deed → List ℕ → Result
+abbrev pub does : Head → Deed → List ℕ → Answered
 does h d reply = record { answer = answer_of (Some d.part); book = d.book; area = d.area; reply = replied h (Some d.part) reply }
 
-abbrev pub obeys : Result Head Refusal → List ℕ → Book → List ℕ → List ℕ → Result
+abbrev pub obeys : Result Head Refusal → List ℕ → Book → List ℕ → List ℕ → Answered
 obeys (Err r) part b area reply = refuses r b area reply
 obeys (Ok h) part b area reply = does h (deed_of h.kind part b area) reply
 
-unfoldable pub handled : Book → List ℕ → List ℕ → List ℕ → Result
+unfoldable pub handled : Book → List ℕ → List ℕ → List ℕ → Answered
 handled b area message reply = obeys (checked (length reply) message) (part_of message) b area reply
 
 -- ---- what the functions promise
@@ -176,7 +176,7 @@ abbrev pub Shows : Book → Got → Type 0
 Shows b g = g.code ≡ successful → g.at < length (entries_of b)
 
 -- a call that came to this: its answer and next book, and what the lent memory then holds; the law of book and area is kept
-pub record Handling (w : Result) (area reply : List ℕ) (h : Handled) : Type 0 where
+pub record Handling (w : Answered) (area reply : List ℕ) (h : Handled) : Type 0 where
   pub answer : h.answer ≡ w.answer
   pub next : h.next ≡ w.book
   pub area' : area ≡ w.area
