@@ -16,12 +16,6 @@ pub struct Sums {
     pub high: u16,
 }
 
-fn wide(x: u8) -> u32
-    ensures { (result ≡ x) × (result ≤ 255) }
-{
-    x as u32
-}
-
 // A sum with one number more, which stays below the prime.
 fn added(sum: u32, more: u32) -> u32
     requires { (sum < 65521) × (more < 65521) }
@@ -35,12 +29,9 @@ pub fn checksum(bytes: &[u8]) -> Sums
 {
     let mut low: u32 = 1;
     let mut high: u32 = 0;
-    let mut i = 0;
-    while i < bytes.len() {
-        let byte = wide(bytes[i]);
-        low = added(low, byte);
+    for &byte in bytes {
+        low = added(low, u32::from(byte));
         high = added(high, low);
-        i += 1;
     }
     Sums {
         low: low as u16,

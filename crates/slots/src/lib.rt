@@ -19,33 +19,20 @@ const SLOT: usize = 383;
 // The bytes of an area of 256 slots.
 const AREA: usize = 98048;
 
-fn wide(x: u16) -> usize
-    ensures { result ≡ x }
-{
-    x as usize
-}
-
 // Whether an area of so many bytes has a slot of this number.
 fn is_slot(size: usize, slot: u16) -> bool
     ensures { result ≡ is_slot size slot }
 {
-    if size == AREA {
-        return slot <= 255;
-    }
-    false
+    size == AREA && slot <= 255
 }
 
 // Bytes of a slot, from a place in it on; none where it has no such bytes.
 pub fn part(area: &[u8], slot: u16, at: usize, count: usize) -> &[u8]
     ensures { SlotPart area.entry result slot at count }
 {
-    if is_slot(area.len(), slot) {
-        if at <= SLOT {
-            if count <= SLOT - at {
-                let start = wide(slot) * SLOT + at;
-                return &area[start..start + count];
-            }
-        }
+    if is_slot(area.len(), slot) && at <= SLOT && count <= SLOT - at {
+        let start = usize::from(slot) * SLOT + at;
+        return &area[start..start + count];
     }
     &area[0..0]
 }
@@ -54,24 +41,14 @@ pub fn part(area: &[u8], slot: u16, at: usize, count: usize) -> &[u8]
 pub fn has_key(area: &[u8], slot: u16, long: u16, key: &[u8]) -> bool
     ensures { result ≡ holds_key area.now slot long key.now }
 {
-    octets::same(part(area, slot, 0, wide(long)), key)
-}
-
-fn zero(bytes: &mut [u8])
-    ensures { bytes.new ≡ replicate (length bytes.old) 0 }
-{
-    let mut i = 0;
-    while i < bytes.len() {
-        bytes[i] = 0;
-        i += 1;
-    }
+    octets::same(part(area, slot, 0, usize::from(long)), key)
 }
 
 fn fill(slot: &mut [u8], key: &[u8], bytes: &[u8])
     requires { length key.now + length bytes.now ≤ length slot.old }
     ensures { slot.new ≡ key.now ++ (bytes.now ++ replicate (length slot.old - length key.now - length bytes.now) 0) }
 {
-    zero(slot);
+    slot.fill(0);
     let n = octets::copy(key, slot);
     let _m = octets::copy(bytes, &mut slot[n..]);
 }
@@ -80,16 +57,10 @@ fn fill(slot: &mut [u8], key: &[u8], bytes: &[u8])
 pub fn write(area: &mut [u8], slot: u16, key: &[u8], bytes: &[u8])
     ensures { area.new ≡ written area.old slot key.now bytes.now }
 {
-    if !is_slot(area.len(), slot) {
+    if !is_slot(area.len(), slot) || 255 < key.len() || 128 < bytes.len() {
         return;
     }
-    if 255 < key.len() {
-        return;
-    }
-    if 128 < bytes.len() {
-        return;
-    }
-    let start = wide(slot) * SLOT;
+    let start = usize::from(slot) * SLOT;
     let end = start + SLOT;
     fill(&mut area[start..end], key, bytes);
 }
@@ -101,7 +72,7 @@ pub fn wipe(area: &mut [u8], slot: u16)
     if !is_slot(area.len(), slot) {
         return;
     }
-    let start = wide(slot) * SLOT;
+    let start = usize::from(slot) * SLOT;
     let end = start + SLOT;
-    zero(&mut area[start..end]);
+    area[start..end].fill(0);
 }

@@ -11,8 +11,8 @@ returns-then-count-at c =
     let t = slot-there (length a.area.now) a.slot e in
     let h : a.at + a.count ≤ 383 = omega arith in
     record {
-      bytes = part-is a.area.now a.slot a.at a.count _ c.wide.ensures h
+      bytes = part-is a.area.now a.slot a.at a.count _ c.from.ensures h
           ∙ sym (bytes-are a.area.now a.slot t.0 t.1 a.at a.count h);
       place = rw (e, le-leb a.at 383 c.if-at-le-SLOT.true, le-leb a.count (383 - a.at) c.if-count-at.true)
-          (λ i. (a.area.ref_ptr.0, c.wide.ensures i * 383 + a.at + a.area.ref_ptr.1));
+          (λ i. (a.area.ref_ptr.0, c.from.ensures i * 383 + a.at + a.area.ref_ptr.1));
     }

@@ -7,4 +7,4 @@ pub returns : goal.returns
 returns c =
     let a = c.args in
     let t = slot-there (length a.area.now) a.slot (sym c.is_slot.ensures ∙ c.if-not-is_slot.false) in
-    put-wiped a.area.now _ a.slot _ c.wide-start.ensures t.0 t.1 c.zero.ensures ∙ sym (wiped-is a.area.now a.slot t.0 t.1)
+    put-wiped a.area.now _ a.slot _ c.from-start.ensures t.0 t.1 (c.fill.ensures.after (λ y e. e)) ∙ sym (wiped-is a.area.now a.slot t.0 t.1)

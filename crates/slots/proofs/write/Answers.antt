@@ -7,5 +7,5 @@ pub returns : goal.returns
 returns c =
     let a = c.args in
     let t = slot-there (length a.area.now) a.slot (sym c.is_slot.ensures ∙ c.if-not-is_slot.false) in
-    put_written a.area.now _ a.slot _ c.wide-start.ensures t.0 t.1 a.key.now a.bytes.now c.fill.ensures
+    put_written a.area.now _ a.slot _ c.from-start.ensures t.0 t.1 a.key.now a.bytes.now c.fill.ensures
     ∙ sym (written_is a.area.now a.slot t.0 t.1 a.key.now a.bytes.now c.if-key-gt255.false c.if-bytes-gt128.false)
