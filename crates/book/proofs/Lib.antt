@@ -4,3 +4,5 @@ pub mod Tables
 pub mod Marked
 pub mod Searches
 pub mod Kept
+pub mod Moved
+pub mod Blanks

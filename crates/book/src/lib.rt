@@ -13,7 +13,7 @@
 ghost use Rattle.std.specs.Prelude.{◌≡◌};
 
 // A file's row in the table: whether it is made, and the longest key and data that it takes.
-#[derive(Clone, Copy)]
+#[derive(Clone, Copy, Default)]
 pub struct Kind {
     pub made: bool,
     pub keymax: u16,
@@ -21,7 +21,7 @@ pub struct Kind {
 }
 
 // A record's entry: its file, its pointer there, its slot, and the lengths of its key and data.
-#[derive(Clone, Copy)]
+#[derive(Clone, Copy, Default)]
 pub struct Entry {
     pub file: u16,
     pub pointer: u16,

@@ -6,7 +6,7 @@
 // `book`'s.
 #![tactic(auto)]
 
-ghost use Rattle.std.specs.Prelude.{[], ◌≡◌, get_or, length, set, drop, take, ◌≤◌, cond, ltb};
+ghost use Rattle.std.specs.Prelude.{[], ◌≡◌, get_or, length, set, drop, take, ◌≤◌, cond, ltb, true};
 ghost use Rattle.book.specs.Book.{Shaped, book_of, entries_of, no_entry, no_kinds, pushed_of, Lawful, in_file, key_at, meant, pointers_of, slots_of};
 ghost use Rattle.lists.specs.ByPlace.{cut, last, place};
 ghost use Rattle.lists.specs.Least.{gap, least};
@@ -19,21 +19,9 @@ use book::{Book, Entry, Kind};
 pub fn fresh() -> Book
     ensures { result ≡ book_of no_kinds [] }
 {
-    let kind = Kind {
-        made: false,
-        keymax: 0,
-        recmax: 0,
-    };
-    let entry = Entry {
-        file: 0,
-        pointer: 0,
-        slot: 0,
-        keylen: 0,
-        len: 0,
-    };
     Book {
-        kinds: [kind; 16],
-        entries: [entry; 256],
+        kinds: [Kind::default(); 16],
+        entries: [Entry::default(); 256],
         count: 0,
     }
 }
@@ -43,16 +31,9 @@ pub fn emptied(b: Book) -> Book
     ensures { result ≡ book_of b.kinds [] }
 {
     let kinds = b.kinds;
-    let entry = Entry {
-        file: 0,
-        pointer: 0,
-        slot: 0,
-        keylen: 0,
-        len: 0,
-    };
     Book {
         kinds,
-        entries: [entry; 256],
+        entries: [Entry::default(); 256],
         count: 0,
     }
 }
@@ -74,13 +55,7 @@ pub fn entry_at(b: Book, at: usize) -> Entry
     if at < b.count {
         return b.entries[at];
     }
-    Entry {
-        file: 0,
-        pointer: 0,
-        slot: 0,
-        keylen: 0,
-        len: 0,
-    }
+    Entry::default()
 }
 
 // One entry more, where there is room.
@@ -108,19 +83,9 @@ pub fn removed(b: Book, at: usize) -> Book
         return b;
     }
     let mut next = b;
-    let mut i = at;
-    while i + 1 < n {
-        next.entries[i] = next.entries[i + 1];
-        i += 1;
-    }
-    next.entries[i] = Entry {
-        file: 0,
-        pointer: 0,
-        slot: 0,
-        keylen: 0,
-        len: 0,
-    };
-    next.count = i;
+    next.entries.copy_within(at + 1..n, at);
+    next.entries[n - 1] = Entry::default();
+    next.count = n - 1;
     next
 }
 
@@ -224,16 +189,22 @@ fn lowest_unset(used: &[bool; 257], from: u16) -> u16
     requires { from ≤ 1 }
     ensures { result ≡ gap from used.now }
 {
-    let mut s: u16 = from;
-    let mut left: u16 = 256;
-    while 0 < left {
-        if !used[book::wide(s)] {
-            return s;
+    for number in from..from + 256 {
+        if !used[usize::from(number)] {
+            return number;
         }
-        s += 1;
-        left -= 1;
     }
-    s
+    from + 256
+}
+
+// Marks a number, where there is room for it.
+fn mark(used: &mut [bool; 257], number: u16)
+    ensures { used.new ≡ set used.old number true }
+{
+    let place = usize::from(number);
+    if place < used.len() {
+        used[place] = true;
+    }
 }
 
 // The lowest slot that no entry has.
@@ -241,16 +212,9 @@ pub fn free_slot(b: Book) -> u16
     requires { Shaped b }
     ensures { result ≡ least 0 (slots_of (entries_of b)) }
 {
-    let n = b.count;
     let mut used = [false; 257];
-    let mut i = 0;
-    while i < n {
-        let x = b.entries[i];
-        let s = book::wide(x.slot);
-        if s < 257 {
-            used[s] = true;
-        }
-        i += 1;
+    for x in &b.entries[..b.count] {
+        mark(&mut used, x.slot);
     }
     lowest_unset(&used, 0)
 }
@@ -260,16 +224,11 @@ pub fn free_pointer(b: Book, f: u16) -> u16
     requires { Shaped b }
     ensures { result ≡ least 1 (pointers_of f (entries_of b)) }
 {
-    let n = b.count;
     let mut used = [false; 257];
-    let mut i = 0;
-    while i < n {
-        let x = b.entries[i];
-        let p = book::wide(x.pointer);
-        if x.file == f && p < 257 {
-            used[p] = true;
+    for x in &b.entries[..b.count] {
+        if x.file == f {
+            mark(&mut used, x.pointer);
         }
-        i += 1;
     }
     lowest_unset(&used, 1)
 }

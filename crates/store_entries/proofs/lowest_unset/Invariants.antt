@@ -1,10 +1,7 @@
 -- The loop keeps what a look from here on finds.
-use Rattle.std.proofs.Common.{◌+◌, ◌≡◌}
+use Rattle.std.proofs.Common.{◌+◌, ◌-◌, ◌≡◌}
 use Rattle.lists.specs.Least.{gap, gap_in}
 use Rattle.store_entries.proofs.lowest_unset.Given as goal
 
-abbrev pub invariant-loop-left : goal.invariant-loop-left
-invariant-loop-left l = (l.s + l.left ≡ l.from + 256) × (gap_in l.left l.s l.used ≡ gap l.from l.used)
-
-abbrev pub decreases-loop-left : goal.decreases-loop-left
-decreases-loop-left l = l.left
+abbrev pub invariant-loop-number : goal.invariant-loop-number
+invariant-loop-number l = gap_in (l.from + 256 - l.number) l.number l.used ≡ gap l.from l.used
