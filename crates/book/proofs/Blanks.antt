@@ -1,5 +1,4 @@
 -- A row and an entry whose fields are all 0 are those of no file and of no record.
-use Prim.Native.Nat.{ℕ}
 use mathlib.Core.Bool.{false}
 use mathlib.Core.Path.{◌≡◌}
 use Rattle.book.specs.Book.{no_entry, no_kind}

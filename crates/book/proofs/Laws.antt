@@ -1,7 +1,7 @@
 -- Laws of a book: what its law tells, its searches, and a book put together.
-use Prim.Native.Nat.{◌+◌, ◌-◌, ◌<◌, suc, zero, ℕ, ◌≤◌}
+use Prim.Native.Nat.{◌+◌, ◌-◌, ◌<◌, min, suc, zero, ℕ, ◌≤◌}
 use Rattle.std.specs.Prelude.{Some, None}
-use mathlib.Core.Bool.{Bool, cond, false, true}
+use mathlib.Core.Bool.{Bool, false, true}
 use mathlib.Core.List.{◌++◌, List, [], ◌∷◌}
 use mathlib.Core.Path.{ap, sym, ◌∙◌, ◌≡◌}
 use native.Mathlib.Nat.{le_of_lt}
@@ -143,11 +143,7 @@ slot_small b h k = omega (arith, least-le 0 (slots_of (entries_of b)), slots-lon
 -- ---- the lesser of a place and the count
 
 -- a start of the entries is a start of all places
-pub take-both : (l : List Entry) (e n : ℕ) → take (cond (ltb e n) e n) l ≡ take e (take n l)
+pub take-both : (l : List Entry) (e n : ℕ) → take (min e n) l ≡ take e (take n l)
 take-both l e n =
-    split (ltb e n) (λ t. rw t (sym (take-take e n l (le_of_lt (ltb-true e n t)))))
-    (λ t. rw t (sym (take_all e (take n l) (omega (arith, length-take n l, ltb-false e n t)))))
-
-pub lesser-le : (e n r : ℕ) → r ≡ cond (ltb e n) e n → r ≤ n
-lesser-le e n r q =
-    split (ltb e n) (λ t. let z : r ≡ e = (rw t at q) in omega (arith, ltb-true e n t)) (λ t. let z : r ≡ n = (rw t at q) in omega arith)
+    split (ltb e n) (λ t. let k : e < n = ltb-true e n t in let m : min e n ≡ e = omega arith in rw m (sym (take-take e n l (le_of_lt k))))
+    (λ t. let k : n ≤ e = ltb-false e n t in let m : min e n ≡ n = omega arith in rw m (sym (take_all e (take n l) (omega (arith, length-take n l)))))

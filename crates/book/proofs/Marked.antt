@@ -2,7 +2,7 @@
 use Prim.Native.Nat.{◌+◌, ◌<◌, ℕ, ◌≤◌}
 use mathlib.Core.Bool.{Bool, true}
 use mathlib.Core.List.{List, [], ◌∷◌}
-use mathlib.Core.Logic.{◌⊎◌, inl, inr}
+use mathlib.Core.Logic.{inl, inr}
 use mathlib.Core.Path.{ap, refl, subst, sym, ◌∙◌, ◌≡◌}
 use native.Mathlib.Numerals.{add-one}
 use lib.Dec.{ltb}

@@ -6,7 +6,7 @@
 // `book`'s.
 #![tactic(auto)]
 
-ghost use Rattle.std.specs.Prelude.{[], ◌≡◌, get_or, length, set, drop, take, ◌≤◌, cond, ltb, true};
+ghost use Rattle.std.specs.Prelude.{[], ◌≡◌, get_or, length, set, drop, take, ◌≤◌, true};
 ghost use Rattle.book.specs.Book.{Shaped, book_of, entries_of, no_entry, no_kinds, pushed_of, Lawful, in_file, key_at, meant, pointers_of, slots_of};
 ghost use Rattle.lists.specs.ByPlace.{cut, last, place};
 ghost use Rattle.lists.specs.Least.{gap, least};
@@ -108,13 +108,7 @@ pub fn renewed(b: Book, at: usize, x: Entry) -> Book
 fn is_meant(x: Entry, f: u16, p: u16) -> bool
     ensures { result ≡ meant f p x }
 {
-    if x.file == f {
-        if p == 0 {
-            return true;
-        }
-        return x.pointer == p;
-    }
-    false
+    x.file == f && (p == 0 || x.pointer == p)
 }
 
 // The first entry from a place on that is of file f and has pointer p.
@@ -122,21 +116,12 @@ pub fn first_from(b: Book, from: usize, f: u16, p: u16) -> Option<usize>
     requires { Shaped b }
     ensures { result ≡ place (meant f p) from (drop from (entries_of b)) }
 {
-    let n = b.count;
-    let mut i = from;
-    while i < n {
+    for i in from..b.count {
         if is_meant(b.entries[i], f, p) {
             return Some(i);
         }
-        i += 1;
     }
     None
-}
-
-fn lesser(a: usize, b: usize) -> usize
-    ensures { result ≡ cond (ltb a b) a b }
-{
-    if a < b { a } else { b }
 }
 
 // The last entry of file f before a place.
@@ -144,11 +129,8 @@ pub fn last_before(b: Book, end: usize, f: u16) -> Option<usize>
     requires { Shaped b }
     ensures { result ≡ last (in_file f) (take end (entries_of b)) }
 {
-    let mut i = lesser(end, b.count);
-    while 0 < i {
-        i -= 1;
-        let x = b.entries[i];
-        if x.file == f {
+    for i in (0..end.min(b.count)).rev() {
+        if b.entries[i].file == f {
             return Some(i);
         }
     }
@@ -160,10 +142,7 @@ fn key_is(area: &[u8], x: Entry, f: u16, key: &[u8]) -> bool
     requires { (length area.now ≡ 98048) × (x.slot ≤ 255) × (x.keylen ≤ 255) }
     ensures { result ≡ key_at area.now f key.now x }
 {
-    if x.file == f {
-        return slots::has_key(area, x.slot, x.keylen, key);
-    }
-    false
+    x.file == f && slots::has_key(area, x.slot, x.keylen, key)
 }
 
 // The first entry from a place on that is of file f and has this key.
@@ -171,13 +150,10 @@ pub fn with_key(b: Book, area: &[u8], from: usize, f: u16, key: &[u8]) -> Option
     requires { Lawful b area.now }
     ensures { result ≡ place (key_at area.now f key.now) from (drop from (entries_of b)) }
 {
-    let n = b.count;
-    let mut i = from;
-    while i < n {
+    for i in from..b.count {
         if key_is(area, b.entries[i], f, key) {
             return Some(i);
         }
-        i += 1;
     }
     None
 }
