@@ -1,17 +1,20 @@
 -- The table of files: the row of a file, the first free one, and the law of a book with another table.
 use Prim.Native.Nat.{◌%◌, ◌+◌, ◌-◌, ◌<◌, suc, zero, ℕ, ◌≤◌}
 use Rattle.std.specs.Prelude.{Some}
-use mathlib.Core.Bool.{false, true}
+use mathlib.Core.Bool.{Bool, cond, false, true}
 use mathlib.Core.List.{List, [], ◌∷◌}
 use mathlib.Core.Logic.{◌⊎◌, ⊎_elim}
 use mathlib.Core.Path.{ap, refl, sym, ◌∙◌, ◌≡◌}
 use native.Mathlib.Nat.{mod-eq_of_lt}
 use native.Mathlib.Numerals.{add-one}
+use Rattle.std.proofs.Common.{zero-add}
 use native.Mathlib.Omega.{arith}
 use lib.Dec.{ltb}
-use lib.ListN.{get_or-eq_default, drop, drop_of_length-le, get_or, length, length-set, replicate, set}
+use lib.ListN.{get_or-eq_default, drop, get_or, length, length-set, replicate, set}
 use lib.Seq.{drop-cons}
 use borrow.Author.Tests.{ltb-false, ltb-true}
+use Rattle.std.proofs.lemmas.List.Recursion.{is_count_by}
+use Rattle.std.specs.List.{count_by}
 use Rattle.book.proofs.Laws.{lawful-of}
 use Rattle.book.specs.Book.{Lawful, Limits, book_of, created_at, free_kind, is_made, kind, kind_of, no_kind, no_kinds, with_kind, with_kinds}
 use Rattle.book.specs.declared.Book.{Book}
@@ -19,7 +22,7 @@ use Rattle.book.specs.declared.Created.{Created}
 use Rattle.book.specs.declared.Kind.{Kind}
 use Rattle.lists.proofs.ByPlace.{set_past}
 use Rattle.lists.proofs.Tests.{clash, differ, split}
-use Rattle.lists.specs.Lists.{All, count}
+use Rattle.lists.specs.Lists.{All, count, one}
 
 pub kind-none : (ks : List Kind) (f : ℕ) → length ks ≡ 16 → (f ≡ 0) ⊎ (16 < f) → no_kind ≡ kind_of ks f
 kind-none ks zero h z = refl
@@ -95,15 +98,14 @@ created b k r i h e =
     ∙ sym (ap (created_at b k r) e)
 
 -- ---- the files held
-module _ (ks : List Kind) (i : ℕ) (h : i < length ks) where
-  pub held-made : (get_or ks i no_kind).made ≡ true → count is_made (drop i ks) ≡ 1 + count is_made (drop (i + 1) ks)
-  held-made t = ap (count is_made) (drop-cons ks i no_kind h) ∙ rw (t, add-one)
 
-  pub held-free : (get_or ks i no_kind).made ≡ false → count is_made (drop i ks) ≡ count is_made (drop (i + 1) ks)
-  held-free t = ap (count is_made) (drop-cons ks i no_kind h) ∙ rw (t, add-one) (omega arith)
-
-pub held-end : (ks : List Kind) (i : ℕ) → length ks ≤ i → count is_made (drop i ks) ≡ 0
-held-end ks i h = ap (count is_made) (drop_of_length-le ks {i = i} h)
+-- how many are made, counted by a chain
+pub counted : (ks : List Kind) → count is_made ks ≡ count_by is_made ks
+counted ks = is_count_by (count is_made) is_made refl (λ k l. step k.made (count is_made l)) ks
+  where
+    step : (b : Bool) (n : ℕ) → one b + n ≡ cond b (1 + n) n
+    step true n = refl
+    step false n = zero-add n
 
 -- ---- another row for a file
 

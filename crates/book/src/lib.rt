@@ -5,12 +5,10 @@
 // book and area together stand for a list of files (`view_of`), and `Lawful` is what holds of them
 // in every store. `Shaped` is the part of that law that the book has alone.
 //
-// The code, but for `wide`, is in the rooms `store_kinds` (the table of files) and `store_entries` (one entry more, less
+// The code is in the rooms `store_kinds` (the table of files) and `store_entries` (one entry more, less
 // or another, which entry it is, and which numbers are free). Each function there is total: past the end
 // there is an entry of zeros, and a change there is none.
 #![tactic(auto)]
-
-ghost use Rattle.std.specs.Prelude.{◌≡◌};
 
 // A file's row in the table: whether it is made, and the longest key and data that it takes.
 #[derive(Clone, Copy, Default)]
@@ -43,11 +41,4 @@ pub struct Book {
 pub struct Created {
     pub id: u16,
     pub next: Book,
-}
-
-// A pointer, slot or identifier as a place of an array.
-pub fn wide(x: u16) -> usize
-    ensures { result ≡ x }
-{
-    x as usize
 }

@@ -15,7 +15,7 @@ ghost use Rattle.file_commands.specs.Erasing.{clear_area, clear_of, code_of_crea
 ghost use Rattle.files.specs.Asked.{ids_of};
 ghost use Rattle.files.specs.Coded.{passing};
 
-use book::Book;
+use book::{Book, Kind};
 
 // The identifiers of the new files before zeros, and the book with them.
 #[derive(Clone, Copy)]
@@ -86,7 +86,7 @@ fn left_of(b: Book, ids: &[u8]) -> Option<Book>
         if !store_kinds::kind_of(left, f).made {
             return None;
         }
-        left = store_kinds::with_kind(left, f, store_kinds::no_kind());
+        left = store_kinds::with_kind(left, f, Kind::default());
     }
     Some(left)
 }
@@ -109,7 +109,7 @@ pub fn clear(b: Book, area: &mut [u8], f: u16) -> Result<Book, u16>
     if !k.made {
         return Err(tapa::INVALID_FILE_ID);
     }
-    let left = store_kinds::with_kind(b, f, store_kinds::no_kind());
+    let left = store_kinds::with_kind(b, f, Kind::default());
     let next = swept(left, area);
     Ok(store_kinds::with_kind(next, f, k))
 }

@@ -52,16 +52,14 @@ fn put_word(out: &mut [u8], at: usize, x: u16)
     requires { at + 2 ≤ length out.old }
     ensures { out.new ≡ over out.old at (two_bytes x) }
 {
-    let two = [(x / 256) as u8, (x % 256) as u8];
-    put(out, at, &two);
+    put(out, at, &x.to_be_bytes());
 }
 
 fn put_kind(out: &mut [u8], at: usize, kind: Kind)
     requires { (at + 3 ≤ length out.old) × Limits kind }
     ensures { out.new ≡ over out.old at (kind_bytes kind) }
 {
-    let made = if kind.made { 1u8 } else { 0u8 };
-    let row = [made, kind.keymax as u8, kind.recmax as u8];
+    let row = [u8::from(kind.made), kind.keymax as u8, kind.recmax as u8];
     put(out, at, &row);
 }
 
@@ -69,10 +67,11 @@ fn put_entry(out: &mut [u8], at: usize, x: Entry)
     requires { (at + 6 ≤ length out.old) × (x.file ≤ 255) × (x.slot ≤ 255) × (x.keylen ≤ 255) × (x.len ≤ 255) }
     ensures { out.new ≡ over out.old at (entry_bytes x) }
 {
+    let [high, low] = x.pointer.to_be_bytes();
     let entry = [
         x.file as u8,
-        (x.pointer / 256) as u8,
-        (x.pointer % 256) as u8,
+        high,
+        low,
         x.slot as u8,
         x.keylen as u8,
         x.len as u8,
@@ -85,10 +84,8 @@ fn put_kinds(out: &mut [u8], b: Book)
     requires { (62 ≤ length out.old) × Shaped b × All Limits b.kinds }
     ensures { out.new ≡ over out.old 14 (flat kind_bytes b.kinds) }
 {
-    let mut i: u16 = 0;
-    while i < 16 {
-        put_kind(out, 14 + i as usize * 3, store_kinds::kind_of(b, i + 1));
-        i += 1;
+    for (i, kind) in b.kinds.iter().enumerate() {
+        put_kind(out, 14 + i * 3, *kind);
     }
 }
 
@@ -96,11 +93,8 @@ fn put_entries(out: &mut [u8], b: Book, area: &[u8])
     requires { (64 + length (entries_of b) * 6 ≤ length out.old) × Storable b area.now }
     ensures { out.new ≡ over out.old 64 (flat entry_bytes (entries_of b)) }
 {
-    let n = store_entries::held(b);
-    let mut i = 0;
-    while i < n {
+    for i in 0..store_entries::held(b) {
         put_entry(out, 64 + i * 6, store_entries::entry_at(b, i));
-        i += 1;
     }
 }
 
@@ -109,12 +103,9 @@ fn put_slots(out: &mut [u8], from: usize, b: Book, area: &[u8])
     requires { (from + length (entries_of b) * 383 ≤ length out.old) × Storable b area.now }
     ensures { out.new ≡ over out.old from (flat (slot_bytes area.now) (entries_of b)) }
 {
-    let n = store_entries::held(b);
-    let mut i = 0;
-    while i < n {
+    for i in 0..store_entries::held(b) {
         let x = store_entries::entry_at(b, i);
         put(out, from + i * 383, slots::part(area, x.slot, 0, 383));
-        i += 1;
     }
 }
 
@@ -170,10 +161,8 @@ fn with_kinds(img: &[u8]) -> Book
     ensures { result ≡ book_of (table_in img.now) [] }
 {
     let mut next = store_entries::fresh();
-    let mut i: u16 = 0;
-    while i < 16 {
-        next = store_kinds::with_kind(next, i + 1, layout::kind_in(img, i as usize));
-        i += 1;
+    for i in 0..16u16 {
+        next = store_kinds::with_kind(next, i + 1, layout::kind_in(img, usize::from(i)));
     }
     next
 }
@@ -184,11 +173,8 @@ fn book_in(img: &[u8]) -> Book
     ensures { result ≡ book_of (table_in img.now) (entries_in img.now) }
 {
     let mut next = with_kinds(img);
-    let n = layout::held(img);
-    let mut i = 0;
-    while i < n {
+    for i in 0..layout::held(img) {
         next = store_entries::pushed(next, layout::entry_in(img, i));
-        i += 1;
     }
     next
 }
@@ -198,7 +184,7 @@ fn fill_slot(area: &mut [u8], slot: u16, bytes: &[u8])
     requires { (length area.old ≡ 98048) × (slot ≤ 255) × (length bytes.now ≡ 383) }
     ensures { area.new ≡ put_slot area.old slot bytes.now }
 {
-    put(area, slot as usize * 383, bytes);
+    put(area, usize::from(slot) * 383, bytes);
 }
 
 // The slots of an image, into the area.
@@ -207,13 +193,10 @@ fn pour(img: &[u8], area: &mut [u8])
     ensures { area.new ≡ poured (entries_in img.now) (drop (64 + count_in img.now * 6) img.now) area.old }
 {
     let n = layout::held(img);
-    let mut i = 0;
-    while i < n {
+    for i in 0..n {
         let x = layout::entry_in(img, i);
         let from = 64 + n * 6 + i * 383;
-        let end = from + 383;
-        fill_slot(area, x.slot, &img[from..end]);
-        i += 1;
+        fill_slot(area, x.slot, &img[from..from + 383]);
     }
 }
 

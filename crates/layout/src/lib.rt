@@ -39,16 +39,10 @@ pub enum Verdict {
 
 // ---- bytes
 
-fn wide(x: u16) -> usize
-    ensures { result ≡ x }
-{
-    x as usize
-}
-
 fn number_at(img: &[u8], at: usize) -> u16
     ensures { (result ≡ get_or img.now at 0) × (result ≤ 255) }
 {
-    tapa::byte_at(img, at) as u16
+    u16::from(tapa::byte_at(img, at))
 }
 
 // ---- the parts of an image
@@ -57,7 +51,7 @@ fn number_at(img: &[u8], at: usize) -> u16
 pub fn held(img: &[u8]) -> usize
     ensures { (result ≡ count_in img.now) × (result ≤ 65535) }
 {
-    wide(tapa::word_at(img, 62))
+    usize::from(tapa::word_at(img, 62))
 }
 
 // Row i of the table of files.
@@ -65,7 +59,7 @@ pub fn kind_in(img: &[u8], i: usize) -> Kind
     ensures { result ≡ get_or (table_in img.now) i no_kind }
 {
     if 16 <= i {
-        return store_kinds::no_kind();
+        return Kind::default();
     }
     let at = 14 + i * 3;
     Kind {
@@ -80,13 +74,7 @@ pub fn entry_in(img: &[u8], i: usize) -> Entry
     ensures { (result ≡ entry_in img.now i) × (result.slot ≤ 255) × (result.keylen ≤ 255) }
 {
     if held(img) <= i {
-        return Entry {
-            file: 0,
-            pointer: 0,
-            slot: 0,
-            keylen: 0,
-            len: 0,
-        };
+        return Entry::default();
     }
     let at = 64 + i * 6;
     Entry {
@@ -113,12 +101,10 @@ fn row_fits(img: &[u8], at: usize) -> bool
 fn table_fits(img: &[u8]) -> bool
     ensures { result ≡ table_fits img.now }
 {
-    let mut i = 0;
-    while i < 16 {
+    for i in 0..16 {
         if !row_fits(img, 14 + i * 3) {
             return false;
         }
-        i += 1;
     }
     true
 }
@@ -128,9 +114,9 @@ fn row_of(img: &[u8], f: u16) -> Kind
     ensures { result ≡ kind_of (table_in img.now) f }
 {
     if f == 0 {
-        return store_kinds::no_kind();
+        return Kind::default();
     }
-    kind_in(img, wide(f) - 1)
+    kind_in(img, usize::from(f) - 1)
 }
 
 // Whether an entry keeps to the limits of its file, which is made.
@@ -181,16 +167,14 @@ fn has_twin(img: &[u8], i: usize) -> bool
     let x = entry_in(img, i);
     let kind = row_of(img, x.file);
     let from = slots + i * 383;
-    let end = from + wide(x.keylen);
-    let mut j = i + 1;
-    while j < n {
+    let end = from + usize::from(x.keylen);
+    for j in i + 1..n {
         let y = entry_in(img, j);
         let start = slots + j * 383;
-        let stop = start + wide(y.keylen);
+        let stop = start + usize::from(y.keylen);
         if clash(0 < kind.keymax, x, &img[from..end], y, &img[start..stop]) {
             return true;
         }
-        j += 1;
     }
     false
 }
@@ -200,9 +184,7 @@ fn is_sound(img: &[u8]) -> bool
     requires { length img.now ≡ size_of (count_in img.now) }
     ensures { result ≡ sound (table_in img.now) (entries_in img.now) (slots_in img.now) }
 {
-    let n = held(img);
-    let mut i = 0;
-    while i < n {
+    for i in 0..held(img) {
         let x = entry_in(img, i);
         if !is_within(row_of(img, x.file), x) {
             return false;
@@ -210,7 +192,6 @@ fn is_sound(img: &[u8]) -> bool
         if has_twin(img, i) {
             return false;
         }
-        i += 1;
     }
     true
 }
@@ -235,12 +216,8 @@ fn is_fit(img: &[u8]) -> bool
 fn agree(img: &[u8], name: &[u8]) -> bool
     ensures { result ≡ same (take (length name.now) img.now) (take (length img.now) name.now) }
 {
-    let n = if img.len() < name.len() {
-        img.len()
-    } else {
-        name.len()
-    };
-    octets::same(&img[0..n], &name[0..n])
+    let n = img.len().min(name.len());
+    octets::same(&img[..n], &name[..n])
 }
 
 // Whether the last four bytes are the checksum of those before.
@@ -249,16 +226,10 @@ fn sum_fits(img: &[u8]) -> bool
     ensures { result ≡ sum_fits img.now }
 {
     let n = img.len() - 4;
-    let sums = adler::checksum(&img[0..n]);
-    let high = sums.high;
-    let low = sums.low;
-    let sum = [
-        (high / 256) as u8,
-        (high % 256) as u8,
-        (low / 256) as u8,
-        (low % 256) as u8,
-    ];
-    octets::same(&img[n..], &sum)
+    let sums = adler::checksum(&img[..n]);
+    let [a, b] = sums.high.to_be_bytes();
+    let [c, d] = sums.low.to_be_bytes();
+    octets::same(&img[n..], &[a, b, c, d])
 }
 
 // Says what some bytes are. The checks in their order: the first that fails decides.

@@ -5,21 +5,10 @@
 #![tactic(auto)]
 
 ghost use Rattle.std.specs.Prelude.{◌≤◌, ◌≡◌};
-ghost use Rattle.book.specs.Book.{Shaped, free_kind, is_made, kind_of, no_kind, one_more, with_kind, with_kinds};
+ghost use Rattle.book.specs.Book.{Shaped, free_kind, is_made, kind_of, one_more, with_kind, with_kinds};
 ghost use Rattle.lists.specs.Lists.{count};
 
 use book::{Book, Created, Kind};
-
-// The row of a file that is not made.
-pub fn no_kind() -> Kind
-    ensures { result ≡ no_kind }
-{
-    Kind {
-        made: false,
-        keymax: 0,
-        recmax: 0,
-    }
-}
 
 // The row of a file; one that is not made for an identifier that is none.
 pub fn kind_of(b: Book, f: u16) -> Kind
@@ -27,10 +16,9 @@ pub fn kind_of(b: Book, f: u16) -> Kind
     ensures { result ≡ kind_of b.kinds f }
 {
     if f == 0 || 16 < f {
-        return no_kind();
+        return Kind::default();
     }
-    let i = book::wide(f) - 1;
-    b.kinds[i]
+    b.kinds[usize::from(f) - 1]
 }
 
 // The book with another row for a file.
@@ -41,9 +29,8 @@ pub fn with_kind(b: Book, f: u16, kind: Kind) -> Book
     if f == 0 || 16 < f {
         return b;
     }
-    let i = book::wide(f) - 1;
     let mut next = b;
-    next.kinds[i] = kind;
+    next.kinds[usize::from(f) - 1] = kind;
     next
 }
 
@@ -52,16 +39,7 @@ pub fn files_held(b: Book) -> usize
     requires { Shaped b }
     ensures { (result ≡ count is_made b.kinds) × (result ≤ 16) }
 {
-    let mut n = 0;
-    let mut i = 0;
-    while i < 16 {
-        let k = b.kinds[i];
-        if k.made {
-            n += 1;
-        }
-        i += 1;
-    }
-    n
+    b.kinds.iter().filter(|k| k.made).count()
 }
 
 fn free_kind(b: Book) -> Option<usize>

@@ -1,6 +1,7 @@
 -- One row out a round: that of the file that the word names.
 use Rattle.std.proofs.Common.{◌≡◌, ℕ, true, sym, ap, ◌∙◌, arith}
 use borrow.Author.Tests.{not-false}
+use Rattle.book.proofs.Blanks.{blank-kind}
 use Rattle.book.specs.Book.{kind_of, with_kind, with_kinds}
 use Rattle.book.specs.declared.Kind.{Kind}
 use Rattle.file_commands.proofs.Leaving.{leaving-more}
@@ -16,6 +17,6 @@ loop-i-preserved c =
     let made : (kind_of s.left.kinds (id_at ids s.i)).made ≡ true =
     ap (λ (f : ℕ). (kind_of s.left.kinds f).made) (sym f) ∙ ap (λ (k : Kind). k.made) (sym c.kind_of.ensures) ∙ not-false _ c.if-not-kind_of.false in
     let e : c.with_kind-left.result ≡ with_kinds s.left (unmake s.left.kinds (id_at ids s.i)) =
-    c.with_kind-left.ensures ∙ ap (λ (k : Kind). with_kinds s.left (with_kind s.left.kinds c.pair-f.result k)) c.no_kind.ensures
+    c.with_kind-left.ensures ∙ ap (λ (k : Kind). with_kinds s.left (with_kind s.left.kinds c.pair-f.result k)) (blank-kind c.default.result c.default.ensures)
     ∙ ap (λ (f : ℕ). with_kinds s.left (unmake s.left.kinds f)) f in
     (s.invariant.0, leaving-more c.args.b ids _ s.left s.i s.invariant.1 (omega arith) made c.with_kind-left.result e)

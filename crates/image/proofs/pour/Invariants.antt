@@ -1,5 +1,5 @@
 -- What is poured and the slots that are left are all of them.
-use Rattle.std.proofs.Common.{◌-◌, ◌+◌, ◌*◌, ◌≡◌, ◌≤◌, length, drop}
+use Rattle.std.proofs.Common.{◌+◌, ◌*◌, ◌≡◌, ◌≤◌, length, drop}
 use Rattle.image.proofs.Restores.{slot_at}
 use Rattle.image.specs.Image.{poured}
 use Rattle.layout.specs.Judged.{count_in, entries_in}
@@ -10,6 +10,3 @@ invariant-loop-i l =
     (l.i ≤ count_in l.img)
     × (length l.area ≡ 98048)
     × (poured (drop l.i (entries_in l.img)) (drop (slot_at l.img l.i) l.img) l.area ≡ poured (entries_in l.img) (drop (64 + count_in l.img * 6) l.img) l.fn.area)
-
-abbrev pub decreases-loop-i : goal.decreases-loop-i
-decreases-loop-i l = count_in l.img - l.i

@@ -1,16 +1,13 @@
 -- One row a round.
-use Rattle.std.proofs.Common.{◌+◌, ◌*◌, ap, ◌∙◌, arith, add-one}
-use Rattle.book.specs.Book.{kind_of, no_kind}
-use Rattle.book.specs.declared.Kind.{Kind}
+use Rattle.std.proofs.Common.{◌∙◌, arith}
+use Rattle.book.specs.Book.{no_kind}
 use Rattle.image.proofs.Flats.{flat-more, kinds-wide}
 use Rattle.layout.specs.Layout.{kind_bytes}
-use Rattle.lists.specs.Lists.{over}
 use Rattle.image.proofs.put_kinds.Goals as goal
 
 pub loop-i-preserved : goal.loop-i-preserved
 loop-i-preserved c =
     let s = c.loop-i in
     let ks = c.args.b.kinds in
-    let r = flat-more kind_bytes 3 ks (kinds-wide ks) no_kind 14 s.out _ s.i (omega (arith, c.requires.1.files)) (omega (arith, c.requires.1.files))
-    (c.put_kind.ensures ∙ ap (λ (k : Kind). over s.out (14 + s.i * 3) (kind_bytes k)) (c.kind_of.ensures ∙ ap (kind_of ks) (add-one s.i))) in
-    (omega arith, r.0 ∙ s.invariant.1, r.1 ∙ s.invariant.2)
+    let r = flat-more kind_bytes 3 ks (kinds-wide ks) no_kind 14 s.out _ s.i (omega (arith, c.requires.1.files)) (omega (arith, c.requires.1.files)) c.put_kind.ensures in
+    (r.0 ∙ s.invariant.0, r.1 ∙ s.invariant.1)

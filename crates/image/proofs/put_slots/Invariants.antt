@@ -1,5 +1,5 @@
 -- What is written and the slots that are left are all of them.
-use Rattle.std.proofs.Common.{◌-◌, ◌+◌, ◌*◌, ◌≡◌, ◌≤◌, length, drop}
+use Rattle.std.proofs.Common.{◌+◌, ◌*◌, ◌≡◌, ◌≤◌, length, drop}
 use Rattle.book.specs.Book.{entries_of}
 use Rattle.image.specs.Image.{slot_bytes}
 use Rattle.layout.specs.Layout.{flat}
@@ -10,6 +10,3 @@ abbrev pub invariant-loop-i : goal.invariant-loop-i
 invariant-loop-i l =
     (l.i ≤ length (entries_of l.b)) × (length l.out ≡ length l.fn.out)
     × (over l.out (l.from + l.i * 383) (flat (slot_bytes l.area) (drop l.i (entries_of l.b))) ≡ over l.fn.out l.from (flat (slot_bytes l.area) (entries_of l.b)))
-
-abbrev pub decreases-loop-i : goal.decreases-loop-i
-decreases-loop-i l = length (entries_of l.b) - l.i

@@ -1,5 +1,6 @@
 -- One row a round.
-use Rattle.std.proofs.Common.{arith}
+use Rattle.std.proofs.Common.{ℕ, ap, get_or, ◌∙◌, arith}
+use Rattle.book.specs.Book.{no_kind}
 use Rattle.image.proofs.Restores.{begun-done, begun_more}
 use Rattle.layout.proofs.Readers.{table-count}
 use Rattle.layout.specs.Judged.{table_in}
@@ -8,8 +9,11 @@ use Rattle.image.proofs.with_kinds.Goals as goal
 pub loop-i-preserved : goal.loop-i-preserved
 loop-i-preserved c =
     let s = c.loop-i in
-    let img = c.args.img.now in
-    (omega arith, begun_more (table_in img) s.i s.next s.invariant.1 c.kind_in.result c.with_kind-next.result (table-count img) (omega arith) c.kind_in.ensures c.with_kind-next.ensures)
+    let img = c.args.img.now in (
+      omega arith,
+      begun_more (table_in img) s.i s.next s.invariant.1 c.kind_in.result c.with_kind-next.result (table-count img) (omega arith)
+          (c.kind_in.ensures ∙ ap (λ (n : ℕ). get_or (table_in img) n no_kind) c.from.ensures) c.with_kind-next.ensures,
+    )
 
 pub returns : goal.returns
 returns c =

@@ -1,12 +1,13 @@
 -- The entry stands at its place, and past the last there is one of zeros.
 use Rattle.std.proofs.Common.{◌≡◌, ◌+◌, ◌*◌, ◌∙◌, sym, arith}
+use Rattle.book.proofs.Blanks.{blank-entry}
 use Rattle.layout.proofs.Readers.{entries-at, entries-past}
 use Rattle.layout.specs.Judged.{count_in, entry_at}
 use Rattle.layout.proofs.entry_in.Goals as goal
 
 pub returns-then-held-i : goal.returns-then-held-i
 returns-then-held-i c =
-    (sym (entries-past c.args.img.now 64 (count_in c.args.img.now) c.args.i (omega arith)), omega arith, omega arith)
+    (blank-entry c.default.result c.default.ensures ∙ sym (entries-past c.args.img.now 64 (count_in c.args.img.now) c.args.i (omega arith)), omega arith, omega arith)
 
 pub returns : goal.returns
 returns c =

@@ -22,17 +22,17 @@ pub returns-then-clash : goal.returns-then-clash
 returns-then-clash c =
     let x = c.entry_in-x in
     let y = c.entry_in-y in
-    let m = met c.args.img.now _ c.args.i c.loop-j.j _ _ _ _ _ _ c.held-n.ensures.0 (omega arith) (omega arith) x.ensures.0 x.ensures.2 c.wide.ensures
-    c.row_of-kind.ensures y.ensures.0 y.ensures.2 c.wide-in-loop-j.ensures c.if-clash.ensures in
-    sym (twin-hit c.args.img.now c.args.i c.loop-j.j (omega arith) m) ∙ c.loop-j.invariant.1
+    let m = met c.args.img.now _ c.args.i c.loop-j.j _ _ _ _ _ _ c.held-n.ensures.0 (omega arith) (omega arith) x.ensures.0 x.ensures.2 c.from.ensures
+    c.row_of-kind.ensures y.ensures.0 y.ensures.2 c.from-in-loop-j.ensures c.if-clash.ensures in
+    sym (twin-hit c.args.img.now c.args.i c.loop-j.j (omega arith) m) ∙ c.loop-j.invariant
 
 pub loop-j-preserved : goal.loop-j-preserved
 loop-j-preserved c =
     let x = c.entry_in-x in
     let y = c.entry_in-y in
-    let m = met c.args.img.now _ c.args.i c.loop-j.j _ _ _ _ _ _ c.held-n.ensures.0 (omega arith) (omega arith) x.ensures.0 x.ensures.2 c.wide.ensures
-    c.row_of-kind.ensures y.ensures.0 y.ensures.2 c.wide-in-loop-j.ensures c.if-clash.ensures in
-    (omega arith, twin-miss c.args.img.now c.args.i c.loop-j.j (omega arith) m ∙ c.loop-j.invariant.1)
+    let m = met c.args.img.now _ c.args.i c.loop-j.j _ _ _ _ _ _ c.held-n.ensures.0 (omega arith) (omega arith) x.ensures.0 x.ensures.2 c.from.ensures
+    c.row_of-kind.ensures y.ensures.0 y.ensures.2 c.from-in-loop-j.ensures c.if-clash.ensures in
+    twin-miss c.args.img.now c.args.i c.loop-j.j (omega arith) m ∙ c.loop-j.invariant
 
 pub returns : goal.returns
-returns c = sym (twin-end c.args.img.now c.args.i c.loop-j.j (omega arith)) ∙ c.loop-j.invariant.1
+returns c = sym (twin-end c.args.img.now c.args.i c.loop-j.j (omega arith)) ∙ c.loop-j.invariant

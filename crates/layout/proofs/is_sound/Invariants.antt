@@ -1,10 +1,7 @@
 -- The entries from here on come to what all entries come to.
-use Rattle.std.proofs.Common.{◌-◌, ◌≤◌, ◌≡◌}
+use Rattle.std.proofs.Common.{◌≡◌}
 use Rattle.layout.proofs.Sounds.{sound_from}
 use Rattle.layout.proofs.is_sound.Given as goal
 
 abbrev pub invariant-loop-i : goal.invariant-loop-i
-invariant-loop-i l = (l.i ≤ l.n) × (sound_from l.img l.i ≡ sound_from l.img 0)
-
-abbrev pub decreases-loop-i : goal.decreases-loop-i
-decreases-loop-i l = l.n - l.i
+invariant-loop-i l = sound_from l.img l.i ≡ sound_from l.img 0

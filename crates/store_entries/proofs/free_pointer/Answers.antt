@@ -16,10 +16,10 @@ loop-x-preserved c =
     let f = c.args.f in
     let P : List Bool → Type 0 = λ ms. (length ms ≡ 257) × Marks ms (pointers_of f (drop (s.x-index + 1) l)) (pointers_of f l) in
     elim c.if-x-f.branch [
-      then-x-f w ↦
-        let m = pointer-marked s.used l s.x-index s.invariant.0 (omega arith) f w.if-x-f.true s.invariant.1 in
-        subst P (sym w.used-is) (w.mark.array_long, subst (λ (ms : List Bool). Marks ms (pointers_of f (drop (s.x-index + 1) l)) (pointers_of f l)) (sym w.mark.ensures) m)
-    | else-x-f w ↦ subst P (sym w.used-is) (s.invariant.0, pointer-other s.used l s.x-index s.invariant.0 (omega arith) f w.if-x-f.false s.invariant.1)
+      | then-x-f w ↦
+          let m = pointer-marked s.used l s.x-index s.invariant.0 (omega arith) f w.if-x-f.true s.invariant.1 in
+          subst P (sym w.used-is) (w.mark.array_long, subst (λ (ms : List Bool). Marks ms (pointers_of f (drop (s.x-index + 1) l)) (pointers_of f l)) (sym w.mark.ensures) m)
+      | else-x-f w ↦ subst P (sym w.used-is) (s.invariant.0, pointer-other s.used l s.x-index s.invariant.0 (omega arith) f w.if-x-f.false s.invariant.1)
     ]
 
 pub returns : goal.returns
