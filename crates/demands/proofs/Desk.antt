@@ -10,7 +10,7 @@ use Rattle.rules.specs.Said.{said_outcome}
 use Rattle.rules.proofs.Sums as rules
 use Rattle.cutter.proofs.Whole as cutter
 use Rattle.replies.specs.Said.{said_answer}
-use Rattle.events.specs.Events.{Result}
+use Rattle.events.specs.Events.{Answered}
 use Rattle.events.proofs.Sums as events
 use Rattle.demands.specs.Desk.{Desk}
 
@@ -25,8 +25,8 @@ desk = record {
   c5-bytes = λ buffer. ap (λ (o : Outcome). written o buffer) (rules.c5).outcome;
   c6 = cutter.desk-c6;
   c7 = cutter.desk-c7;
-  c9 = λ d1 d2 s1 s2 thread buffer d s there enough. ap (λ (r : Result). said_answer r.answer) (events.c9-bytes d1 d2 s1 s2 thread buffer d s there enough);
-  c9-bytes = λ d1 d2 s1 s2 thread buffer d s there enough. ap (λ (r : Result). r.reply) (events.c9-bytes d1 d2 s1 s2 thread buffer d s there enough);
+  c9 = λ d1 d2 s1 s2 thread buffer d s there enough. ap (λ (r : Answered). said_answer r.answer) (events.c9-bytes d1 d2 s1 s2 thread buffer d s there enough);
+  c9-bytes = λ d1 d2 s1 s2 thread buffer d s there enough. ap (λ (r : Answered). r.reply) (events.c9-bytes d1 d2 s1 s2 thread buffer d s there enough);
   c11 = λ v room s h enough e y t. ap said_outcome (rules.c11 v room s h enough e y t);
   c12-four = ap said_checked table.four-multi;
   c12-five = ap said_checked table.five-multi;

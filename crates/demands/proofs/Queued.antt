@@ -12,7 +12,7 @@ use Rattle.message.specs.Message.{message_of, read_of, part_of}
 use Rattle.queue.specs.declared.Queue.{Queue}
 use Rattle.queue.specs.Places.{events_of}
 use Rattle.queue.proofs.Once.{at_most}
-use Rattle.events.specs.Events.{apply, command_of, elsewhere, handled, judge, Result}
+use Rattle.events.specs.Events.{apply, command_of, elsewhere, handled, judge, Answered}
 use Rattle.demands.specs.Queued.{Queued, begun, went_on, events_after, AsEvents, Flushing}
 use Rattle.demands.specs.Stored.{Exchange}
 
@@ -24,8 +24,8 @@ queued-as-events (went_on h q w message before after out c) =
     record {
       law = c.handling.next.law;
       few = at_most out.next c.handling.next.law;
-      events = c.handling.next.events ∙ ap (λ (x : Result). x.events) e;
-      told = ((c.handling.answer ∙ ap (λ (x : Result). x.answer) e, c.handling.reply ∙ ap (λ (x : Result). x.reply) e), i.told);
+      events = c.handling.next.events ∙ ap (λ (x : Answered). x.events) e;
+      told = ((c.handling.answer ∙ ap (λ (x : Answered). x.answer) e, c.handling.reply ∙ ap (λ (x : Answered). x.reply) e), i.told);
     }
 
 -- ---- Flush, in bytes

@@ -103,7 +103,7 @@ not-refused None k e = differ (cc)
 not-refused (Some part) k e = differ (cc)
 
 module _ (q : Queue) (message before : List ℕ) where
-  pub record Same (w : events.Result) (start : ℕ) : Type 0 where
+  pub record Same (w : events.Answered) (start : ℕ) : Type 0 where
     pub events : w.events ≡ queue.events_of q
     pub reply : w.reply ≡ before
     pub begins : start ≡ queue.start_of q

@@ -21,8 +21,7 @@ use Rattle.sending.specs.Sending.{Sending}
 use Rattle.replies.specs.Replies.{Replies}
 use Rattle.queue.specs.declared.Event.{Event}
 use Rattle.queue.specs.declared.Queue.{Queue}
-use Rattle.queue.specs.declared.Stretch.{Stretch}
-use Rattle.queue.specs.Places.{Packs, queue_of, HoldsAt}
+use Rattle.queue.specs.Places.{Packs, Stretch, queue_of, HoldsAt}
 use Rattle.events.specs.Ring.{HandlingAt}
 use Rattle.store.specs.Store as store
 use Rattle.store.specs.declared.Handled.{Handled}
@@ -108,7 +107,7 @@ pub record OneResult : Type 0 where
   pub part-to-send : (o : Outcome) (message reply : Bor (List ℕ)) → OnePart (Sending o message reply)
   -- replies (with_part, with_code)
   pub reply : (h : Head) (part before : List ℕ) → OneWith (λ a after. Replies h part before after a)
-  -- queue: the number of an event (pack), a queue (fresh), the stretch and the array (add, take, clear); events
+  -- queue: the number of an event (pack), a queue (fresh, add, take, clear), its stretch and its array; events
   pub pack : (e : Event) → One (Packs e)
   pub queue : (events : List Event) (start : ℕ) → One (λ q. HoldsAt q events start)
   pub lent-queue : (events : List Event) (start : ℕ) → OneWith (λ (s : Stretch) (places : List ℕ). HoldsAt (queue_of places s) events start)

@@ -6,7 +6,7 @@ use Rattle.queue.specs.declared.Event.{Event}
 use Rattle.queue.specs.declared.Queue.{Queue}
 use Rattle.queue.specs.Places.{events_of, HoldsAt, Lawful}
 use Rattle.events.specs.declared.Handled.{Handled}
-use Rattle.events.specs.Events.{handled, Result}
+use Rattle.events.specs.Events.{handled, Answered}
 use Rattle.events.specs.Ring.{HandlingAt}
 use Rattle.demands.specs.Stored.{Exchange}
 
@@ -23,7 +23,7 @@ abbrev pub events_after : List Exchange → List Event
 events_after [] = []
 events_after (x ∷ h) = (handled (events_after h) x.message x.before).events
 
-abbrev pub ToldBy : Result → Exchange → Type 0
+abbrev pub ToldBy : Answered → Exchange → Type 0
 ToldBy w x = (x.answer ≡ w.answer) × (x.after ≡ w.reply)
 
 abbrev pub EachTold : List Exchange → Type 0

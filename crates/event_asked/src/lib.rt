@@ -19,26 +19,18 @@ use tapa::Refusal;
 fn is_elsewhere(head: Head) -> bool
     ensures { result ≡ elsewhere head }
 {
-    if tapa::handler(head.destination) == tapa::EVENT_HANDLER {
-        head.kind == tapa::RESPONSE
-    } else {
-        true
-    }
+    tapa::handler(head.destination) != tapa::EVENT_HANDLER || head.kind == tapa::RESPONSE
 }
 
 // The checks in their order; `room` is the length of the reply buffer, which takes the longest reply.
 pub fn check(message: &[u8], room: usize) -> Result<Head, Refusal>
     ensures { result ≡ checked room message.now }
 {
-    match replies::open(message, room, 13) {
-        Err(refusal) => Err(refusal),
-        Ok(head) => {
-            if is_elsewhere(head) {
-                return Err(Refusal::NotThisPartsMessage);
-            }
-            Ok(head)
-        }
+    let head = replies::open(message, room, 13)?;
+    if is_elsewhere(head) {
+        return Err(Refusal::NotThisPartsMessage);
     }
+    Ok(head)
 }
 
 // ---- the readers of the data part
@@ -59,32 +51,15 @@ fn event_at(part: &[u8], at: usize) -> Event
 pub fn read_command(kind: u8, part: &[u8]) -> Command
     ensures { result ≡ command_of kind part.now }
 {
-    let size = part.len();
-    if kind == tapa::ADD_EVENT {
-        if size == 3 {
-            return Command::Add(event_at(part, 0));
-        }
-        return Command::WrongAdd;
+    match (kind, part.len()) {
+        (tapa::ADD_EVENT, 3) => Command::Add(event_at(part, 0)),
+        (tapa::ADD_EVENT, _) => Command::WrongAdd,
+        (tapa::GET_EVENT, 0) => Command::Get,
+        (tapa::FIND_EVENT, 4) => Command::Find(Search {
+            by: part[0],
+            wanted: event_at(part, 1),
+        }),
+        (tapa::FLUSH_QUEUE, 0) => Command::Flush,
+        _ => Command::Wrong,
     }
-    if kind == tapa::GET_EVENT {
-        if size == 0 {
-            return Command::Get;
-        }
-        return Command::Wrong;
-    }
-    if kind == tapa::FIND_EVENT {
-        if size == 4 {
-            return Command::Find(Search {
-                by: part[0],
-                wanted: event_at(part, 1),
-            });
-        }
-        return Command::Wrong;
-    }
-    if kind == tapa::FLUSH_QUEUE {
-        if size == 0 {
-            return Command::Flush;
-        }
-    }
-    Command::Wrong
 }

@@ -1,15 +1,15 @@
 // What a queue of events holds (section 13): a fresh one, and looks into its ring, which change nothing.
 //
-// The array is lent, and the stretch says which of its places hold events. What the answers are is
-// said of the list of events: rooms `queue` and `events`. The changes are room `event_changes`'s.
+// What the answers are is said of the list of events: rooms `queue` and `events`. The changes are room
+// `event_changes`'s.
 #![tactic(auto)]
 
 ghost use Rattle.std.specs.Prelude.{◌≡◌, [], ltb};
 ghost use Rattle.lists.specs.Lists.{first, find};
-ghost use Rattle.queue.specs.Events.{most, oldest, meets, sought};
-ghost use Rattle.queue.specs.Places.{queue_of, events_in, Lawful, HoldsAt};
+ghost use Rattle.queue.specs.Events.{most, oldest, meets};
+ghost use Rattle.queue.specs.Places.{event_in, number_at, events_of, HoldsAt};
 
-use queue::{Queue, Search, Sought, Stretch};
+use queue::{Event, Queue, Search};
 
 // A queue that holds nothing; its ring begins at place 0.
 pub fn fresh() -> Queue
@@ -25,50 +25,45 @@ pub fn fresh() -> Queue
 // ---- what is held
 
 // Whether one event more can be held.
-pub fn has_room(stretch: Stretch) -> bool
-    ensures { result ≡ ltb stretch.count most }
+pub fn has_room(queue: &Queue) -> bool
+    ensures { result ≡ ltb queue.now.count most }
 {
-    stretch.count < 100
+    queue.count < 100
 }
 
-pub fn oldest(places: &[u32; 100], stretch: Stretch) -> Sought
-    requires { Lawful (queue_of places.now stretch) }
-    ensures { result ≡ sought (oldest (events_in places.now stretch)) }
+// The event that stands so many places after the start: so many are older.
+fn event_after(queue: &Queue, older: usize) -> Event
+    ensures { result ≡ event_in (number_at queue.now.places queue.now.start older) }
 {
-    if stretch.count == 0 {
-        return Sought::Nothing;
+    let place = queue::place_from(queue.start, older);
+    queue::unpack(queue.places[place])
+}
+
+pub fn oldest(queue: &Queue) -> Option<Event>
+    ensures { result ≡ oldest (events_of queue.now) }
+{
+    if queue.count == 0 {
+        return None;
     }
-    let start = stretch.start;
-    Sought::One(queue::unpack(places[start]))
+    Some(event_after(queue, 0))
 }
 
 // The number of the oldest event that meets a search: how many are newer than it.
-pub fn find(places: &[u32; 100], stretch: Stretch, search: Search) -> Option<usize>
-    requires { Lawful (queue_of places.now stretch) }
-    ensures { result ≡ find (meets search) (events_in places.now stretch) }
+pub fn find(queue: &Queue, search: Search) -> Option<usize>
+    ensures { result ≡ find (meets search) (events_of queue.now) }
 {
-    let mut newer = stretch.count;
-    let mut place = stretch.start;
-    while 0 < newer {
-        newer -= 1;
-        if queue::is_met(search, queue::unpack(places[place])) {
-            return Some(newer);
+    for older in 0..queue.count {
+        if queue::is_met(search, event_after(queue, older)) {
+            return Some(queue.count - 1 - older);
         }
-        place = queue::place_from(place, 1);
     }
     None
 }
 
 // The oldest event that meets a search.
-pub fn oldest_met(places: &[u32; 100], stretch: Stretch, search: Search) -> Sought
-    requires { Lawful (queue_of places.now stretch) }
-    ensures { result ≡ sought (first (meets search) (events_in places.now stretch)) }
+pub fn oldest_met(queue: &Queue, search: Search) -> Option<Event>
+    ensures { result ≡ first (meets search) (events_of queue.now) }
 {
-    match find(places, stretch, search) {
-        None => Sought::Nothing,
-        Some(newer) => {
-            let place = queue::place_from(stretch.start, stretch.count - 1 - newer);
-            Sought::One(queue::unpack(places[place]))
-        }
-    }
+    let newer = find(queue, search)?;
+    Some(event_after(queue, queue.count - 1 - newer))
 }

@@ -6,19 +6,19 @@ use mathlib.Core.List.{List, [], ◌∷◌}
 use Rattle.lists.specs.Lists.{first, without}
 use Rattle.queue.specs.declared.Event.{Event}
 use Rattle.queue.specs.declared.Search.{Search}
-use Rattle.queue.specs.declared.Sought.TheVariants.{One, Nothing}
-use Rattle.queue.specs.Events.{oldest, known_search, meets, sought}
+use Rattle.std.specs.Prelude.{Some, None}
+use Rattle.queue.specs.Events.{oldest, known_search, meets}
 use Rattle.queue.proofs.Taking.{like-itself, takes-found}
 use Rattle.events.specs.declared.Command.TheVariants.{Get, Find}
 use Rattle.events.specs.declared.Outcome.TheVariants.{Taken, Coded}
 use Rattle.events.specs.Events.{is_empty, judge, apply}
 
 -- a queue without an oldest event is empty
-pub none-empty : (es : List Event) → sought (oldest es) ≡ Nothing → is_empty es ≡ true
+pub none-empty : (es : List Event) → oldest es ≡ None → is_empty es ≡ true
 none-empty [] e = refl
 none-empty (x ∷ es) e = cc
 
-pub one-filled : (es : List Event) (x : Event) → sought (oldest es) ≡ One x → is_empty es ≡ false
+pub one-filled : (es : List Event) (x : Event) → oldest es ≡ Some x → is_empty es ≡ false
 one-filled [] x e = cc
 one-filled (y ∷ es) x e = refl
 

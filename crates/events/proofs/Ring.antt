@@ -14,7 +14,7 @@ use Rattle.message.specs.Message.{part_of}
 use Rattle.queue.specs.declared.Event.{Event}
 use Rattle.queue.specs.declared.Queue.{Queue}
 use Rattle.queue.specs.declared.Search.{Search}
-use Rattle.queue.specs.Events.{oldest, known_search, meets, like_of, sought}
+use Rattle.queue.specs.Events.{oldest, known_search, meets, like_of}
 use Rattle.queue.specs.Places.{place_from, events_of, Lawful, start_of, HoldsAt}
 use Rattle.queue.proofs.Taking.{alike, like-itself, meets-known}
 use Rattle.queue.proofs.Once.{one-queue}
@@ -45,7 +45,7 @@ unfolding judge start_after
 find-stays s x es start n =
     split (known_search s.by) (λ t. rw (t, n) (found (first (meets s) es) refl)) (λ t. rw t)
   where
-    found : (o : Option Event) → first (meets s) es ≡ o → start_after (taken_or no_matching_events (sought o)) (x ∷ es) start ≡ start
+    found : (o : Option Event) → first (meets s) es ≡ o → start_after (taken_or no_matching_events o) (x ∷ es) start ≡ start
     found None f = refl
     found (Some e) f =
         split (meets (like_of e) x)
@@ -83,7 +83,7 @@ module _ (q : Queue) (w : Lawful q) (s before after : List ℕ) (h : Handled)
   unfolding judge
   find-still search e g f o i d =
       let t = meets-known search e (first-yes (meets search) (events_of q) e f) in
-      oldest-taken-still e (rw (g, t, one-filled (events_of q) e (ap sought o), f)) o i d
+      oldest-taken-still e (rw (g, t, one-filled (events_of q) e o, f)) o i d
 
   -- after an Add every number but that of the place after the newest is as it was
   pub add-still : (e : Event) → judge (events_of q) (command_of head.kind (part_of s)) ≡ Added e

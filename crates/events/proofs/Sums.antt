@@ -19,7 +19,7 @@ use Rattle.message.proofs.Sums.{c2}
 use Rattle.replies.specs.Said.{said_answer}
 use Rattle.queue.specs.declared.Event.{Event}
 use Rattle.events.specs.declared.Command.TheVariants.{Get, Flush}
-use Rattle.events.specs.Events.{elsewhere, checked, command_of, judge, apply, Result, handled}
+use Rattle.events.specs.Events.{elsewhere, checked, command_of, judge, apply, Answered, handled}
 
 module _ (s : List ℕ) (short : length s ≡ 8) (none : word_at s 6 ≡ 0) where
   no-data : length (part_of s) ≡ 0
@@ -46,7 +46,7 @@ module _ (s : List ℕ) (short : length s ≡ 8) (none : word_at s 6 ≡ 0) wher
 
   pub c9-said : (reply : List ℕ) → 13 ≤ length reply → handler_of (word_at s 0) ≡ event_handler → get_or s 4 0 ≡ get_event
       → said_answer (handled [] s reply).answer ≡ says replies (10 ∷ [])
-  c9-said reply enough there get = ap (λ (w : Result). said_answer w.answer) (c9 reply enough there get)
+  c9-said reply enough there get = ap (λ (w : Answered). said_answer w.answer) (c9 reply enough there get)
 
   -- ---- request 01
 

@@ -11,9 +11,7 @@ use Rattle.replies.specs.Checked.{opened, owned}
 use Rattle.replies.specs.Replies.{answer_of, replied}
 use Rattle.queue.specs.declared.Event.{Event}
 use Rattle.queue.specs.declared.Search.{Search}
-use Rattle.queue.specs.declared.Sought.{Sought}
-use Rattle.queue.specs.declared.Sought.TheVariants.{One, Nothing as Nowhere}
-use Rattle.queue.specs.Events.{most, oldest, added, known_search, meets, like_of, sought}
+use Rattle.queue.specs.Events.{most, oldest, added, known_search, meets, like_of}
 use Rattle.queue.specs.Places.{Holds}
 use Rattle.events.specs.declared.Command.{Command}
 use Rattle.events.specs.declared.Command.TheVariants.{Add, WrongAdd, Get, Find, Flush, Wrong}
@@ -59,9 +57,9 @@ is_empty [] = true
 is_empty (e ∷ es) = false
 
 -- an event is taken where there is one, else the answer is this code
-abbrev pub taken_or : ℕ → Sought → Outcome
-taken_or code Nowhere = Coded code
-taken_or code (One e) = Taken e
+abbrev pub taken_or : ℕ → Option Event → Outcome
+taken_or code None = Coded code
+taken_or code (Some e) = Taken e
 
 unfoldable pub judge : List Event → Command → Outcome
 -- 'Add to a full queue drops the newcomer'
@@ -69,14 +67,14 @@ judge es (Add e) = cond (ltb (length es) most) (Added e) Ignored
 -- 'a wrong Add changes nothing and has no reply'
 judge es WrongAdd = Ignored
 -- 'Get takes the oldest, or 'FF72'.'
-judge es Get = taken_or no_events (sought (oldest es))
+judge es Get = taken_or no_events (oldest es)
 -- 'Find takes the oldest that meets its search type (Search Type Coding table): unknown type 'FFFB', empty 'FF72', no match 'FF73', in that order.'
 judge es (Find s) =
     checks
     ((not (known_search s.by), Coded unsupported_operation)
     ∷ (is_empty es, Coded no_events)
     ∷ [])
-    (taken_or no_matching_events (sought (first (meets s) es)))
+    (taken_or no_matching_events (first (meets s) es))
 -- 'Flush answers '0000' and empties the queue'; of an empty one request 01 has: 'it answers 'FF72' and stays empty'
 judge es Flush = cond (is_empty es) (Coded no_events) Emptied
 -- 'gives 'FFFB''
@@ -103,29 +101,29 @@ carried (Coded code) = Some (two_bytes code)
 -- ---- all of it
 
 -- what a message comes to: the answer, the events that the queue then holds, and the whole lent buffer
-pub record Result : Type 0 where
+pub record Answered : Type 0 where
   pub answer : Result (Option ℕ) Refusal
   pub events : List Event
   pub reply : List ℕ
 
 -- 'A refusal returns its number only and changes nothing'
-abbrev pub refuses : Refusal → List Event → List ℕ → Result
+abbrev pub refuses : Refusal → List Event → List ℕ → Answered
 refuses r es reply = record { answer = Err r; events = es; reply = reply }
 
-abbrev pub does : Head → Outcome → List Event → List ℕ → Result
+abbrev pub does : Head → Outcome → List Event → List ℕ → Answered
 does h o es reply = record { answer = answer_of (carried o); events = apply o es; reply = replied h (carried o) reply }
 
-abbrev pub obeys : Result Head Refusal → List Event → List ℕ → List ℕ → Result
+abbrev pub obeys : Result Head Refusal → List Event → List ℕ → List ℕ → Answered
 obeys (Err r) es part reply = refuses r es reply
 obeys (Ok h) es part reply = does h (judge es (command_of h.kind part)) es reply
 
-unfoldable pub handled : List Event → List ℕ → List ℕ → Result
+unfoldable pub handled : List Event → List ℕ → List ℕ → Answered
 handled es message reply = obeys (checked (length reply) message) es (part_of message) reply
 
 -- ---- what the functions promise
 
 -- a call that came to this: its answer and next queue, and what the lent buffer then holds
-pub record Handling (w : Result) (after : List ℕ) (h : Handled) : Type 0 where
+pub record Handling (w : Answered) (after : List ℕ) (h : Handled) : Type 0 where
   pub answer : h.answer ≡ w.answer
   pub next : Holds h.next w.events
   pub reply : after ≡ w.reply

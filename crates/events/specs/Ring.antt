@@ -5,11 +5,10 @@ use Rattle.message.specs.declared.Head.{Head}
 use Rattle.message.specs.Message.{part_of}
 use Rattle.queue.specs.declared.Event.{Event}
 use Rattle.queue.specs.declared.Queue.{Queue}
-use Rattle.queue.specs.Places.{events_of, queue_of, start_of, start_without}
+use Rattle.queue.specs.Places.{events_of, start_of, start_without}
 use Rattle.events.specs.declared.Outcome.{Outcome}
 use Rattle.events.specs.declared.Outcome.TheVariants.{Added, Ignored, Taken, Emptied, Coded}
 use Rattle.events.specs.declared.Handled.{Handled}
-use Rattle.events.specs.declared.Step.{Step}
 use Rattle.events.specs.Events.{checked, command_of, judge, handled, Handling}
 
 -- after an outcome; the events are those that were held before it
@@ -37,7 +36,3 @@ start_handled es start message reply = start_obeyed (checked (length reply) mess
 pub record HandlingAt (q : Queue) (message before after : List ℕ) (h : Handled) : Type 0 where
   pub handling : Handling (handled (events_of q) message before) after h
   pub begins : start_of h.next ≡ start_handled (events_of q) (start_of q) message before
-
--- the same in place: the lent array and the stretch of it that is in use are the next queue
-abbrev pub handled_in : List ℕ → Step → Handled
-handled_in places s = record { answer = s.answer; next = queue_of places s.stretch }

@@ -10,7 +10,7 @@
 // to).
 #![tactic(auto)]
 
-use queue::{Event, Queue, Search, Stretch};
+use queue::{Event, Queue, Search};
 use tapa::Refusal;
 
 // A message as the queue reads it. A wrong Add is apart, since it has no reply.
@@ -32,13 +32,6 @@ pub enum Outcome {
     Taken(Event),
     Emptied,
     Coded(u16),
-}
-
-// What a message came to in place: the answer, and which places of the ring then hold events.
-#[derive(Clone, Copy)]
-pub struct Step {
-    pub answer: Result<Option<usize>, Refusal>,
-    pub stretch: Stretch,
 }
 
 // What a message came to, beside the queue as it then is.

@@ -301,40 +301,20 @@ moving-ends es s n l k b z m =
     inner : n - 1 < most
     inner = omega (arith, m.inside, m.few)
 
--- ---- every event less: the places in use are freed, from the newest on
+-- ---- a walk from the oldest; i events are looked at
 
--- what the loop keeps: from k places after the start on all are free
-pub record Clearing (l : List ℕ) (s k : ℕ) : Type 0 where
-  pub long : length l ≡ most
-  pub free : (i : ℕ) → k ≤ i → i < most → number_at l s i ≡ 0
-
-pub clearing-goes : (l : List ℕ) (s k : ℕ) → 0 < k → k ≤ most → Clearing l s k → Clearing (set l (place_from s (k - 1)) 0) s (k - 1)
-clearing-goes l s k pos h m = record {
-  long = simp length-set m.long;
-  free = freed l s (k - 1) (omega arith) m.long (λ i g b. m.free i (omega arith) b);
-}
-
-pub clearing-ends : (l : List ℕ) (s k : ℕ) → s < most → k ≡ 0 → Clearing l s k → HoldsAt (record { places = l; start = 0; count = 0 }) [] 0
-clearing-ends l s k b z m =
-    holds-zeros l m.long
-    (λ j. split (ltb j most)
-    (λ p. let h : j < most = ltb-true j most p in
-    ap (λ (i : ℕ). get_or l i 0) (sym (reached s j b h)) ∙ m.free ((j + most - s) % most) (omega arith) (omega arith))
-    (λ p. get_or-eq_default l 0 (omega (arith, ltb-false j most p, m.long))))
-
--- ---- a walk from the oldest; k events are not yet looked at
-
-module _ (q : Event → Bool) (l : List ℕ) (s n k : ℕ) (pos : 0 < k) (few : k ≤ n) where
-  next_one : events_from l s (n - k) k ≡ event_in (number_at l s (n - k)) ∷ events_from l s (n - (k - 1)) (k - 1)
+module _ (q : Event → Bool) (l : List ℕ) (s n i : ℕ) (h : i < n) where
+  next_one : events_from l s i (n - i) ≡ event_in (number_at l s i) ∷ events_from l s (i + 1) (n - (i + 1))
   next_one =
-      let a : k ≡ suc (k - 1) = omega arith in
-      let d : n - (k - 1) ≡ suc (n - k) = omega arith in
-      rw d (ap (events_from l s (n - k)) a)
+      let a : n - i ≡ suc (n - suc i) = omega arith in
+      rw (add-one i) (ap (events_from l s i) a)
 
-  pub find-here : q (event_in (number_at l s (n - k))) ≡ true → find q (events_from l s (n - k) k) ≡ Some (k - 1)
-  find-here t = ap (find q) next_one ∙ rw (t, len l s (n - (k - 1)) (k - 1))
+  pub find-here : q (event_in (number_at l s i)) ≡ true → find q (events_from l s i (n - i)) ≡ Some (n - 1 - i)
+  find-here t =
+      let e : n - (i + 1) ≡ n - 1 - i = omega arith in
+      ap (find q) next_one ∙ rw (t, len l s (i + 1) (n - (i + 1)), e)
 
-  pub find_past : q (event_in (number_at l s (n - k))) ≡ false → find q (events_from l s (n - k) k) ≡ find q (events_from l s (n - (k - 1)) (k - 1))
+  pub find_past : q (event_in (number_at l s i)) ≡ false → find q (events_from l s i (n - i)) ≡ find q (events_from l s (i + 1) (n - (i + 1)))
   find_past t = ap (find q) next_one ∙ rw t
 
 -- ---- from the number that a walk found to the event

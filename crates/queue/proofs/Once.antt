@@ -11,9 +11,8 @@ use lib.Seq.{ext_get_or}
 use borrow.Author.Tests.{ltb-true, ltb-false}
 use Rattle.queue.specs.declared.Event.{Event}
 use Rattle.queue.specs.declared.Queue.{Queue}
-use Rattle.queue.specs.declared.Stretch.{Stretch}
 use Rattle.queue.specs.Events.{most}
-use Rattle.queue.specs.Places.{event_in, Packs, place_from, number_at, events_from, events_of, queue_of, Lawful, HoldsAt}
+use Rattle.queue.specs.Places.{event_in, Packs, place_from, number_at, events_from, events_of, Stretch, queue_of, Lawful, HoldsAt}
 use Rattle.queue.proofs.Laws.{len, reached}
 
 -- 'It holds at most 100 events'
@@ -90,7 +89,7 @@ one-queue p q es s x y = determined p q x.holds.law y.holds.law (x.holds.events 
 pub one-pack : (e : Event) (x y : ℕ) → Packs e x → Packs e y → x ≡ y
 one-pack e x y p q = one_number x y p.small q.small (p.back ∙ sym q.back)
 
--- and two that change a lent array so leave the same numbers in it, and answer the same stretch
+-- and so do two arrays with the stretches of them that are in use: the same stretch, and the same numbers
 pub one_lent : (l m : List ℕ) (s t : Stretch) (es : List Event) (start : ℕ) → HoldsAt (queue_of l s) es start → HoldsAt (queue_of m t) es start → (s ≡ t) × (l ≡ m)
 one_lent l m s t es start x y =
     let e = one-queue (queue_of l s) (queue_of m t) es start x y in

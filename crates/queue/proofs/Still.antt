@@ -13,7 +13,7 @@ use Rattle.lists.proofs.Tests.{split}
 use Rattle.lists.proofs.Numbers.{end-found}
 use Rattle.queue.specs.declared.Event.{Event}
 use Rattle.queue.specs.declared.Queue.{Queue}
-use Rattle.queue.specs.Events.{most, oldest, added, meets, like_of, sought}
+use Rattle.queue.specs.Events.{most, oldest, added, meets, like_of}
 use Rattle.queue.specs.Places.{event_in, Packs, place_from, number_at, events_from, events_of, Lawful, start_of, start_without, HoldsAt}
 use Rattle.queue.proofs.Laws.{len, holds_more, holds-full, holds-rest, gap-starts, met-inside, added_more}
 use Rattle.queue.proofs.Taking.{like-itself, some_left, rest-left, goes_on, stays-behind}
@@ -28,9 +28,9 @@ module _ (q r : Queue) (w : Lawful q) (e : Event) (o : oldest (events_of q) ≡ 
       let t = like-itself e in
       let n = len q.places q.start 0 q.count in
       let a : without (meets (like_of e)) (events_of q) ≡ without_at (q.count - 1) (events_of q)
-      = rest-left e e q.start (events_of q) (ap sought o) t ∙ ap (λ (m : ℕ). without_at (m - 1) (events_of q)) n in
-      let b : start_without e (events_of q) q.start ≡ place_from q.start 1 = goes_on e e q.start (events_of q) (ap sought o) t in
-      let s = holds-rest q w (omega (arith, n, some_left e e 0 (events_of q) (ap sought o))) in
+      = rest-left e e q.start (events_of q) o t ∙ ap (λ (m : ℕ). without_at (m - 1) (events_of q)) n in
+      let b : start_without e (events_of q) q.start ≡ place_from q.start 1 = goes_on e e q.start (events_of q) o t in
+      let s = holds-rest q w (omega (arith, n, some_left e e 0 (events_of q) o)) in
       one-queue r _ _ _ k (record { holds = record { events = s.holds.events ∙ sym a; law = s.holds.law }; begins = sym b })
 
   -- 'taking the oldest moves no event': every number but one is as it was

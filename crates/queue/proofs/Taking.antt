@@ -12,9 +12,9 @@ use Rattle.lists.specs.Lists.{first, without, find, without_at}
 use Rattle.lists.proofs.Tests.{split, differ, and_yes}
 use Rattle.lists.proofs.First.{first-yes}
 use Rattle.queue.specs.declared.Event.{Event}
-use Rattle.queue.specs.declared.Sought.TheVariants.{One, Nothing}
+use Rattle.std.specs.Prelude.{Some, None}
 use Rattle.queue.specs.declared.Search.{Search}
-use Rattle.queue.specs.Events.{oldest, by_location, by_type, by_both, known_search, meets, like_of, sought}
+use Rattle.queue.specs.Events.{oldest, by_location, by_type, by_both, known_search, meets, like_of}
 use Rattle.queue.specs.Places.{place_from, start_without}
 
 -- an event meets the search for its like, and only what is the same does
@@ -66,30 +66,30 @@ module _ (q : Event → Bool) (e : Event) where
 -- ---- where the ring begins without it
 
 -- an empty queue has nothing to take
-pub none_left : (es : List Event) → sought (oldest es) ≡ Nothing → es ≡ []
+pub none_left : (es : List Event) → oldest es ≡ None → es ≡ []
 none_left [] o = refl
 none_left (x ∷ es) o = cc
 
 module _ (e x : Event) (s : ℕ) where
-  pub some_left : (es : List Event) → sought (oldest es) ≡ One x → 0 < length es
+  pub some_left : (es : List Event) → oldest es ≡ Some x → 0 < length es
   some_left [] o = absurd (let z : ◌≡◌ {A = ℕ} 0 1 = cc in omega arith)
   some_left (y ∷ es) o = omega arith
 
   -- the oldest of all is taken: the others stay, and the ring begins at the next place
-  pub rest-left : (es : List Event) → sought (oldest es) ≡ One x → meets (like_of e) x ≡ true → without (meets (like_of e)) es ≡ without_at (length es - 1) es
+  pub rest-left : (es : List Event) → oldest es ≡ Some x → meets (like_of e) x ≡ true → without (meets (like_of e)) es ≡ without_at (length es - 1) es
   rest-left [] o t = refl
   rest-left (y ∷ es) o t =
       let z : y ≡ x = cc in
       rw (z, t, eq-eqb (suc (length es) - 1) (length es) (omega arith))
 
-  pub goes_on : (es : List Event) → sought (oldest es) ≡ One x → meets (like_of e) x ≡ true → start_without e es s ≡ place_from s 1
+  pub goes_on : (es : List Event) → oldest es ≡ Some x → meets (like_of e) x ≡ true → start_without e es s ≡ place_from s 1
   goes_on [] o t = absurd (let z : ◌≡◌ {A = ℕ} 0 1 = cc in omega arith)
   goes_on (y ∷ es) o t =
       let z : y ≡ x = cc in
       rw (z, t)
 
   -- another one is taken, or none: the ring begins where it began
-  pub stays : (es : List Event) → sought (oldest es) ≡ One x → meets (like_of e) x ≡ false → start_without e es s ≡ s
+  pub stays : (es : List Event) → oldest es ≡ Some x → meets (like_of e) x ≡ false → start_without e es s ≡ s
   stays [] o t = refl
   stays (y ∷ es) o t =
       let z : y ≡ x = cc in

@@ -3,8 +3,6 @@ use Rattle.std.specs.Prelude.{ℕ, Bool, false, ◌&&◌, cond, List, [], ◌∷
 use Rattle.lists.specs.Lists.{checks}
 use Rattle.queue.specs.declared.Event.{Event}
 use Rattle.queue.specs.declared.Search.{Search}
-use Rattle.queue.specs.declared.Sought.{Sought}
-use Rattle.queue.specs.declared.Sought.TheVariants.{One, Nothing}
 
 -- 'It holds at most 100 events'
 abbrev pub most : ℕ
@@ -46,8 +44,3 @@ meets s e =
 -- the search for an event's like
 abbrev pub like_of : Event → Search
 like_of e = record { by = by_both; wanted = e }
-
--- an answer to what was asked for
-abbrev pub sought : Option Event → Sought
-sought None = Nothing
-sought (Some e) = One e

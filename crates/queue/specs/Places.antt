@@ -3,7 +3,6 @@
 use Rattle.std.specs.Prelude.{ℕ, zero, suc, ◌+◌, ◌/◌, ◌%◌, ◌≤◌, ◌<◌, ◌≡◌, cond, List, [], ◌∷◌, length, get_or}
 use Rattle.queue.specs.declared.Event.{Event}
 use Rattle.queue.specs.declared.Queue.{Queue}
-use Rattle.queue.specs.declared.Stretch.{Stretch}
 use Rattle.queue.specs.Events.{most, meets, like_of}
 
 -- an event as one number: the type byte above the location
@@ -47,7 +46,12 @@ pub record Holds (q : Queue) (es : List Event) : Type 0 where
   pub events : events_of q ≡ es
   pub law : Lawful q
 
--- a lent array, with the stretch of it that is in use
+-- which places of an array hold events: from the ring's start on, so many
+pub record Stretch : Type 0 where
+  pub start : ℕ
+  pub count : ℕ
+
+-- the queue of an array, with the stretch of it that is in use
 abbrev pub queue_of : List ℕ → Stretch → Queue
 queue_of places s = record { places = places; start = s.start; count = s.count }
 

@@ -4,11 +4,10 @@
 // So taking the oldest frees its place and begins the ring at the next one: no event moves. Adding
 // writes one place. Only Find closes a gap, and then the younger events move.
 //
-// A queue is a value. The rooms `event_ring` (look-ups) and `event_changes` work in place on its
-// array, which the caller lends, so that no call copies it; the caller keeps the stretch that they
-// hand back. What they promise speaks of the list of events (`events_in`) and of where the ring then
-// begins. How an event is packed, and at which place it stands, is said in specs/Places.antt; who calls
-// these rooms need not know it.
+// A queue is a value, and the rooms `event_ring` (look-ups) and `event_changes` work in place on one
+// that the caller lends, so that no call copies it. What they promise speaks of the list of events
+// (`events_of`) and of where the ring then begins. How an event is packed, and at which place it stands,
+// is said in specs/Places.antt; who calls these rooms need not know it.
 //
 // Here are the definitions, their laws, and what concerns one event or one place.
 #![tactic(auto)]
@@ -32,25 +31,11 @@ pub struct Queue {
     pub count: usize,
 }
 
-// Which places of the ring hold events: from its start on, so many.
-#[derive(Clone, Copy)]
-pub struct Stretch {
-    pub start: usize,
-    pub count: usize,
-}
-
 // What a search is by (Search Type Coding), and what it is for.
 #[derive(Clone, Copy)]
 pub struct Search {
     pub by: u8,
     pub wanted: Event,
-}
-
-// The event that was asked for, where there is one.
-#[derive(Clone, Copy)]
-pub enum Sought {
-    One(Event),
-    Nothing,
 }
 
 // ---- a search

@@ -30,10 +30,7 @@ pub fn open(message: &[u8], room: usize, least: usize) -> Result<Head, Refusal>
     if room < least {
         return Err(Refusal::BufferTooSmall);
     }
-    match message_reader::read(message) {
-        Err(refusal) => Err(refusal),
-        Ok(head) => Ok(head),
-    }
+    message_reader::read(message)
 }
 
 // ---- what goes back
@@ -42,23 +39,20 @@ pub fn open(message: &[u8], room: usize, least: usize) -> Result<Head, Refusal>
 pub fn with_part(reply: &mut [u8], head: Head, part: &[u8]) -> Result<Option<usize>, Refusal>
     ensures { Replies head part.now reply.old reply.new result }
 {
-    match message_writer::write(
+    let n = message_writer::write(
         reply,
         head.source,
         head.destination,
         tapa::RESPONSE,
         head.thread,
         part,
-    ) {
-        Ok(n) => Ok(Some(n)),
-        Err(refusal) => Err(refusal),
-    }
+    )?;
+    Ok(Some(n))
 }
 
 // A response that carries its code alone.
 pub fn with_code(reply: &mut [u8], head: Head, code: u16) -> Result<Option<usize>, Refusal>
     ensures { Replies head (two_bytes code) reply.old reply.new result }
 {
-    let part = [(code / 256) as u8, (code % 256) as u8];
-    with_part(reply, head, &part)
+    with_part(reply, head, &code.to_be_bytes())
 }

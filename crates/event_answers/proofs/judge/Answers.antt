@@ -7,5 +7,11 @@ use Rattle.event_answers.proofs.judge.Goals as goal
 pub returns-then-has_room : goal.returns-then-has_room
 unfolding judge
 returns-then-has_room c =
-    let s = c.args.stretch in
-    rw (c.in-Add.is, len c.args.places.now s.start 0 s.count, sym c.has_room.ensures ∙ c.if-has_room.true)
+    let q = c.args.queue.now in
+    rw (c.in-Add.is, len q.places q.start 0 q.count, sym c.has_room.ensures ∙ c.if-has_room.true)
+
+pub returns-else-has_room : goal.returns-else-has_room
+unfolding judge
+returns-else-has_room c =
+    let q = c.args.queue.now in
+    rw (c.in-Add.is, len q.places q.start 0 q.count, sym c.has_room.ensures ∙ c.if-has_room.false)

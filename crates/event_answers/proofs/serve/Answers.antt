@@ -1,18 +1,20 @@
 -- A refusal leaves all as it was, and a command is read, judged, done and answered.
-use Rattle.std.proofs.Common.{sym, ap, ◌∙◌}
-use Rattle.queue.specs.Places.{queue_of, events_in}
+use Rattle.std.proofs.Common.{◌≡◌, sym, ap, ◌∙◌, rules}
+use Rattle.std.specs.Prelude.{Err}
+use Rattle.queue.specs.Places.{events_of}
 use Rattle.events.specs.Events.{command_of, judge}
 use Rattle.events.proofs.Handling.{refusing, obeyed}
 use Rattle.event_answers.proofs.serve.Goals as goal
 
-pub returns-in-Err : goal.returns-in-Err
-returns-in-Err c = refusing (queue_of c.args.places.now c.args.stretch) _ _ _ c.requires (sym c.in-Err.ensures)
+pub returns-in_err-head : goal.returns-in_err-head
+returns-in_err-head c =
+    let e : c.from_residual.result ≡ Err c.in_err-head.field-0.0 = search rules in
+    rw e (refusing c.args.queue.now _ _ _ c.requires (sym c.check.ensures ∙ c.in_err-head.was))
 
-pub returns-in-Ok : goal.returns-in-Ok
-returns-in-Ok c =
-    let q = queue_of c.args.places.now c.args.stretch in
-    let es = events_in c.args.places.now c.args.stretch in
-    obeyed q _ _ _ _ _ _ _ (sym c.in-Ok.ensures)
-    (c.judge-outcome.ensures ∙ ap (judge es) (c.read_command-command.ensures ∙ ap (command_of c.in-Ok.head.kind) c.data_part.ensures.bytes))
-    c.apply-after.ensures
-    c.answered-answer.ensures
+pub returns : goal.returns
+returns c =
+    let q = c.args.queue.now in
+    obeyed q _ _ _ _ _ _ _ (sym c.in_ok-head.ensures)
+    (c.judge-outcome.ensures ∙ ap (judge (events_of q)) (c.read_command-command.ensures ∙ ap (command_of c.in_ok-head.head.kind) c.data_part.ensures.bytes))
+    c.apply.ensures
+    c.answered.ensures

@@ -1,8 +1,10 @@
 -- The event is packed into the place after the newest, if one is free.
-use Rattle.std.proofs.Common.{arith}
-use Rattle.queue.specs.Places.{queue_of}
+use Rattle.std.proofs.Common.{arith, sym, ◌∙◌}
+use borrow.Author.Tests.{ltb-true}
 use Rattle.queue.proofs.Laws.{holds_more}
 use Rattle.event_changes.proofs.add.Goals as goal
 
-pub returns : goal.returns
-returns c = rw c.place_from-place.ensures (holds_more (queue_of c.args.places.now c.args.stretch) _ _ c.requires (omega arith) c.pack.ensures)
+pub returns-then-has_room : goal.returns-then-has_room
+returns-then-has_room c =
+    rw c.place_from-place.ensures
+    (holds_more c.args.queue.now _ _ c.requires (ltb-true _ _ (sym c.has_room.ensures ∙ c.if-has_room.true)) c.pack.ensures)

@@ -1,32 +1,33 @@
 -- The event behind the gap moves into it; the last place in use is then freed.
-use Rattle.std.proofs.Common.{◌≡◌, ℕ, ◌-◌, ◌<◌, arith, rules, ap, ◌∙◌}
-use Rattle.queue.specs.Places.{place_from, queue_of}
-use Rattle.queue.proofs.Laws.{one_further, moving-starts, moving-goes, moving-ends}
+use Rattle.std.proofs.Common.{◌≡◌, ◌+◌, ◌-◌, refl, arith}
+use Rattle.queue.proofs.Laws.{moving-starts, moving-goes, moving-ends}
 use Rattle.event_changes.proofs.close_gap.Goals as goal
 
-pub loop-left-init : goal.loop-left-init
-loop-left-init c = record {
-  moving = moving-starts (queue_of c.args.places.now c.args.stretch) _ c.requires.lawful c.requires.newer_lt_count;
-  gap = c.place_from-gap.ensures;
-}
-
-one_less : (n k : ℕ) → 0 < k → k < n → n - k ≡ n - 1 - (k - 1)
-one_less n k a b = omega arith
-
-pub loop-left-preserved : goal.loop-left-preserved
-loop-left-preserved c =
-    let s = c.args.stretch in
-    let i = c.loop-left.invariant in
-    let behind : c.place_from-behind.result ≡ place_from s.start (s.count - c.loop-left.left)
-    = rw i.gap at c.place_from-behind.ensures ∙ one_further s.start _ _ (omega (arith, i.moving.inside)) in
-    let e = one_less s.count c.loop-left.left (search rules) i.moving.inside in
+pub loop-older-init : goal.loop-older-init
+loop-older-init c =
+    let q = c.args.queue.now in
+    let e : q.count - 1 - (q.count - 1 - c.args.newer) ≡ c.args.newer = omega arith in
     record {
-      moving = rw (i.gap, behind) (moving-goes _ _ _ _ c.loop-left.left (search rules) i.moving);
-      gap = behind ∙ ap (place_from s.start) e;
+      start = refl;
+      inside = omega arith;
+      moving = rw e (moving-starts q _ c.requires.lawful c.requires.newer_lt_count);
+    }
+
+pub loop-older-preserved : goal.loop-older-preserved
+loop-older-preserved c =
+    let n = c.args.queue.now.count in
+    let h = c.loop-older.older in
+    let i = c.loop-older.invariant in
+    let gap : n - 1 - (n - 1 - h) ≡ h = omega arith in
+    let behind : n - (n - 1 - h) ≡ h + 1 = omega arith in
+    let less : n - 1 - (h + 1) ≡ n - 1 - h - 1 = omega arith in
+    record {
+      start = i.start;
+      inside = omega arith;
+      moving = rw (c.place_from-gap.ensures, c.place_from-behind.ensures, i.start, less) (rw (gap, behind) at (moving-goes _ _ _ _ (n - 1 - h) (omega arith) i.moving));
     }
 
 pub returns : goal.returns
 returns c =
-    let n = c.args.stretch.count in
-    let e : n - 1 - c.loop-left.left ≡ n - 1 = omega arith in
-    rw (c.loop-left.invariant.gap, e) (moving-ends _ _ _ _ c.loop-left.left c.requires.lawful.begun (omega arith) c.loop-left.invariant.moving)
+    let i = c.loop-older.invariant in
+    rw (c.place_from-newest.ensures, i.start) (moving-ends _ _ _ _ _ c.requires.lawful.begun (omega arith) i.moving)

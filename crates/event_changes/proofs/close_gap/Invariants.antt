@@ -1,18 +1,15 @@
 -- A gap moves up to the last place in use.
-use Rattle.std.proofs.Common.{◌≡◌, ◌-◌}
+use Rattle.std.proofs.Common.{◌≡◌, ◌-◌, ◌≤◌}
 use Rattle.lists.specs.Lists.{without_at}
-use Rattle.queue.specs.Places.{place_from, events_in}
+use Rattle.queue.specs.Places.{events_of}
 use Rattle.queue.proofs.Laws.{Moving}
 use Rattle.event_changes.proofs.close_gap.Given as goal
 
-abbrev pub invariant-loop-left : goal.invariant-loop-left
-invariant-loop-left l =
-    let start = l.fn.stretch.start in
-    let n = l.fn.stretch.count in
+abbrev pub invariant-loop-older : goal.invariant-loop-older
+invariant-loop-older l =
+    let q = l.fn.queue in
     record {
-      moving : Moving (without_at l.fn.newer (events_in l.fn.places l.fn.stretch)) start n l.places l.left;
-      gap : l.gap ≡ place_from start (n - 1 - l.left);
+      start : l.queue.start ≡ q.start;
+      inside : l.older ≤ q.count - 1;
+      moving : Moving (without_at l.fn.newer (events_of q)) q.start q.count l.queue.places (q.count - 1 - l.older);
     }
-
-abbrev pub decreases-loop-left : goal.decreases-loop-left
-decreases-loop-left l = l.left

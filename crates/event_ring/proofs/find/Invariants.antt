@@ -2,19 +2,14 @@
 use Rattle.std.proofs.Common.{◌≡◌, ◌-◌, ◌≤◌}
 use Rattle.lists.specs.Lists.{find}
 use Rattle.queue.specs.Events.{meets}
-use Rattle.queue.specs.Places.{place_from, events_from}
+use Rattle.queue.specs.Places.{events_from}
 use Rattle.event_ring.proofs.find.Given as goal
 
-abbrev pub invariant-loop-newer : goal.invariant-loop-newer
-invariant-loop-newer l =
-    let n = l.fn.stretch.count in
-    let start = l.fn.stretch.start in
+abbrev pub invariant-loop-older : goal.invariant-loop-older
+invariant-loop-older l =
+    let n = l.queue.count in
+    let start = l.queue.start in
     record {
-      inside : l.newer ≤ n;
-      few : n ≤ 100;
-      here : l.place ≡ place_from start (n - l.newer);
-      ahead : find (meets l.search) (events_from l.places start (n - l.newer) l.newer) ≡ find (meets l.search) (events_from l.places start 0 n);
+      inside : l.older ≤ n;
+      ahead : find (meets l.search) (events_from l.queue.places start l.older (n - l.older)) ≡ find (meets l.search) (events_from l.queue.places start 0 n);
     }
-
-abbrev pub decreases-loop-newer : goal.decreases-loop-newer
-decreases-loop-newer l = l.newer

@@ -1,19 +1,17 @@
 -- The number that a walk found leads to the event.
-use Rattle.std.proofs.Common.{arith, sym, ap}
+use Rattle.std.proofs.Common.{arith, sym, ◌∙◌}
 use Rattle.lists.proofs.Numbers.{find_none}
-use Rattle.queue.specs.Events.{meets, sought}
-use Rattle.queue.specs.Places.{queue_of, events_of}
+use Rattle.queue.specs.Events.{meets}
+use Rattle.queue.specs.Places.{events_of}
 use Rattle.queue.proofs.Laws.{met-inside, met-there}
 use Rattle.event_ring.proofs.oldest_met.Goals as goal
 
-pub overflow_sub-stretch-in-Some : goal.overflow_sub-stretch-in-Some
-overflow_sub-stretch-in-Some c = omega (arith, met-inside _ (queue_of c.args.places.now c.args.stretch) _ (sym c.in-Some.ensures))
+pub returns-in_err-newer : goal.returns-in_err-newer
+returns-in_err-newer c =
+    c.from_residual.ensures ∙ sym (find_none (meets c.args.search) (events_of c.args.queue.now) (sym (c.in_err-newer.ensures)))
 
-pub returns-in-None : goal.returns-in-None
-returns-in-None c =
-    ap sought (sym (find_none (meets c.args.search) (events_of (queue_of c.args.places.now c.args.stretch)) (sym c.in-None.ensures)))
+pub overflow_sub-queue-2 : goal.overflow_sub-queue-2
+overflow_sub-queue-2 c = omega (arith, met-inside _ c.args.queue.now _ (sym (c.in_ok-newer.ensures)))
 
-pub returns-in-Some : goal.returns-in-Some
-returns-in-Some c =
-    rw (c.unpack.ensures, c.place_from-place.ensures)
-    (ap sought (sym (met-there _ (queue_of c.args.places.now c.args.stretch) _ (sym c.in-Some.ensures))))
+pub returns : goal.returns
+returns c = rw c.event_after.ensures (sym (met-there _ c.args.queue.now _ (sym (c.in_ok-newer.ensures))))
