@@ -1,7 +1,7 @@
 -- How far the contract reaches: two calls on the same inputs that meet it hand back the same answer, the same next book, the same area and the same buffer.
 use Prim.Native.Nat.{ℕ}
 use Rattle.tapa.specs.declared.Refusal.{Refusal}
-use Rattle.std.specs.Prelude.{Option}
+use Rattle.std.specs.Prelude.{Result, Option}
 use mathlib.Core.List.{List}
 use mathlib.Core.Path.{sym, ◌∙◌, ◌≡◌}
 use Rattle.book.specs.declared.Book.{Book}

@@ -10,7 +10,7 @@ use lib.Dec.{eqb}
 use lib.ListN.{drop, get_or, length, take}
 use lib.Seq.{get_or-drop, take_at}
 use borrow.Author.Tests.{eqb-true, ne_eqb}
-use Rattle.std.specs.Prelude.{Err, Ok, Some}
+use Rattle.std.specs.Prelude.{Result, Err, Ok, Some}
 use Rattle.book.specs.Book.{Lawful, view_of}
 use Rattle.book.specs.declared.Book.{Book}
 use Rattle.file_commands.proofs.Creates.{CreateRight, create-fails, create-right}
