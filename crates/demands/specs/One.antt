@@ -37,7 +37,7 @@ use Rattle.run.specs.declared.Went.{Went}
 use Rattle.run.specs.State.{Turns, turn_of}
 use Rattle.run.specs.Start as run
 use Rattle.pages.specs.Pages.{Paged}
-use Rattle.forms.specs.declared.Span.{Span}
+use Rattle.std.specs.declared.ops.Range.{Range}
 use Rattle.forms.specs.Forms.{Spans}
 use Rattle.hexes.specs.declared.Cursor as hexes
 use Rattle.hexes.specs.Reading.{Reads}
@@ -136,7 +136,7 @@ pub record OneResult : Type 0 where
       → (x ≡ x') × (l ≡ l') × (c ≡ c')
   pub fill-page : (input : List ℕ) (w : Session) (before : List ℕ) → OneWith (λ p after. Paged input w before after p)
   -- forms: where a wording stands
-  pub wording : (sheet : List ℕ) (n : ℕ) → One (λ (p : Span). Spans sheet n p)
+  pub wording : (sheet : List ℕ) (n : ℕ) → One (λ (p : Range ℕ). Spans sheet n p)
   -- hexes
   pub hex-read : (text before : List ℕ) → OneWith (λ r after. Reads text before after r)
   pub hex-write : (c : hexes.Cursor) (part before : List ℕ) → OneWith (λ r after. Writes c part before after r)

@@ -1,6 +1,5 @@
 pub mod Engraving
 pub mod Sheets
-pub mod Holes
 pub mod Filling
 pub mod Ink
 pub mod Example

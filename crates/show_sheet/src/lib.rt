@@ -4,15 +4,19 @@
 // in it, is in crate `forms`.
 #![tactic(auto)]
 
-ghost use Rattle.std.specs.Prelude.{◌≡◌, ◌+◌, ◌≤◌, length};
+ghost use Rattle.std.specs.Prelude.{◌≡◌, nat_lt};
+ghost use Rattle.std.specs.List.{position};
 ghost use Rattle.text.specs.Text.{pen};
-ghost use Rattle.forms.specs.Forms.{Spans, end_of, stylus, nibbed, engraved};
+ghost use Rattle.forms.specs.Forms.{Spans, stylus, nibbed, engraved};
 
-use forms::{Nib, Span};
+use forms::Nib;
+use std::ops::Range;
+use text::Writer;
 
 // ---- written
 
 // One byte of a wording that is being engraved: `|` goes on to the next cell.
+#[tactic(auto, using(text::proofs::Calls::calls), unfolding(forms::specs::Forms::nibbed))]
 fn engrave_byte(sheet: &mut [u8], nib: Nib, byte: u8) -> Nib
     ensures { stylus result.cell (pen sheet.new result.at) ≡ nibbed (stylus nib.cell (pen sheet.old nib.at)) byte }
 {
@@ -23,9 +27,11 @@ fn engrave_byte(sheet: &mut [u8], nib: Nib, byte: u8) -> Nib
             at: cell * 128,
         };
     }
+    let mut out = Writer::new(sheet, nib.at);
+    out.put(byte);
     Nib {
         cell: nib.cell,
-        at: text::put(sheet, nib.at, byte),
+        at: out.place(),
     }
 }
 
@@ -39,44 +45,28 @@ pub fn engrave(sheet: &mut [u8], first: usize, wordings: &[u8])
         cell,
         at: cell * 128,
     };
-    let mut seen = 0;
-    while seen < wordings.len() {
-        nib = engrave_byte(sheet, nib, wordings[seen]);
-        seen += 1;
+    for byte in wordings {
+        nib = engrave_byte(sheet, nib, *byte);
     }
 }
 
 // ---- found
 
-// Where the wording that begins at a place ends.
-#[tactic(auto, using(forms::proofs::Sheets::ends_at))]
-fn wording_end(sheet: &[u8], start: usize) -> usize
-    requires { start + 128 ≤ length sheet.now }
-    ensures { result ≡ end_of sheet.now start }
+// Where the wording of a cell ends, where it ends before the cell does: at the first byte below 32.
+fn wording_end(cell: &[u8]) -> Option<usize>
+    ensures { result ≡ position (λ b. nat_lt b 32) cell.now }
 {
-    let mut i = start;
-    while i < start + 128 {
-        if sheet[i] < 32 {
-            return i;
-        }
-        i += 1;
-    }
-    i
+    cell.iter().position(|byte| *byte < 32)
 }
 
-// The wording of a cell. One that is not there has no byte.
-pub fn wording(sheet: &[u8], n: usize) -> Span
+// Where the wording of a cell stands. One that is not there has no byte.
+pub fn wording(sheet: &[u8], n: usize) -> Range<usize>
     ensures { Spans sheet.now n result }
 {
-    if 512 <= n {
-        return Span { start: 0, end: 0 };
+    if n >= 512 || sheet.len() < n * 128 + 128 {
+        return 0..0;
     }
     let start = n * 128;
-    if sheet.len() < start + 128 {
-        return Span { start: 0, end: 0 };
-    }
-    Span {
-        start,
-        end: wording_end(sheet, start),
-    }
+    let cell = &sheet[start..start + 128];
+    start..start + wording_end(cell).unwrap_or(128)
 }

@@ -10,7 +10,7 @@ use lib.Seq.{take-suc, append_snoc, set-append_seam}
 use borrow.Table.Steps.{cases}
 use borrow.Author.Tests.{lt-ltb, le-ltb, ltb-true, ltb-false}
 use Rattle.text.specs.declared.Writer.{Writer}
-use Rattle.text.specs.Text.{Writes, Pen, pen, pushed, puts, spelled, hexes_of, decimals, decimal_of}
+use Rattle.text.specs.Text.{pen_of, Writes, Pen, pen, pushed, puts, spelled, hexes_of, decimals, decimal_of}
 
 -- ---- calls that follow one another
 
@@ -35,6 +35,22 @@ wrote_none p = record { lent = refl; text = refl }
 -- a call that writes a, and then one that writes b, write a ++ b
 pub and_then : {p q r : Writer} {a b : List ℕ} → Writes p q a → Writes q r b → Writes p r (a ++ b)
 and_then e f = record { lent = f.lent ∙ e.lent; text = more _ _ _ _ _ e.text f.text }
+
+-- ---- a loop that says what is left: with the rest behind q, all is behind p
+
+pub record Left (p q : Writer) (rest all : List ℕ) : Type 0 where
+  pub lent : q.bytes.ghost_name ≡ p.bytes.ghost_name
+  pub text : puts (pen_of q) rest ≡ puts (pen_of p) all
+
+pub left_all : (p : Writer) (all : List ℕ) → Left p p all all
+left_all p all = record { lent = refl; text = refl }
+
+pub left_more : {p q r : Writer} {all : List ℕ} (a rest : List ℕ) → Left p q (a ++ rest) all → Writes q r a → Left p r rest all
+left_more a rest e f = record { lent = f.lent ∙ e.lent; text = ap (λ (z : Pen). puts z rest) f.text ∙ (puts-append _ a rest ∙ e.text) }
+
+pub left_none : {p q : Writer} {all : List ℕ} → Left p q [] all → Writes p q all
+unfolding puts
+left_none e = record { lent = e.lent; text = e.text }
 
 -- ---- the bytes of a slice, one more: f is the text of one byte
 
