@@ -10,8 +10,10 @@ use lib.ListN.{length, take, drop, get_or, length-append}
 use lib.Seq.{take-suc, take-append_seam}
 use borrow.Table.Steps.{cases}
 use borrow.Author.Tests.{leb-false}
-use Rattle.text.specs.Text.{Pen, pen, puts, hex_of}
-use Rattle.text.proofs.Laws.{more, puts-fit}
+use Rattle.text.specs.declared.Writer.{Writer}
+use Rattle.text.specs.Text.{Pen, pen, hex_of}
+use Rattle.text.specs.Text as text
+use Rattle.text.proofs.Laws.{and_then, puts-fit}
 use Rattle.hexes.specs.declared.Cursor.{Cursor}
 use Rattle.hexes.specs.declared.Written.{Written}
 use Rattle.hexes.specs.Writing.{is_over, advanced, splits_at, name_of, gap_of, text_of, after, Writes}
@@ -35,15 +37,15 @@ module _ (c : Cursor) (s : List ℕ) (i : ℕ) (h : i < length s) where
   pub after_more : (d : Cursor) → d ≡ after c (take i s) → advanced d (get_or s i 0) ≡ after c (take (i + 1) s)
   after_more d e = rw (e, split, after-append c (take i s) (get_or s i 0 ∷ []))
 
-  pub text-more : (d e : Cursor) (p q r : Pen)
+  pub text-more : {p q r : Writer} (d e : Cursor)
       → d ≡ after c (take i s)
       → e ≡ advanced d (get_or s i 0)
-      → q ≡ puts p (text_of c (take i s))
-      → r ≡ puts q (hex_of (get_or s i 0) ++ gap_of e)
-      → r ≡ puts p (text_of c (take (i + 1) s))
-  text-more d e p q r u v f g =
-      more p q r (text_of c (take i s)) (hex_of (get_or s i 0) ++ gap_of e) f g
-      ∙ ap (puts p) (rw (v, u, split, text-append c (take i s) (get_or s i 0 ∷ []), append-nil))
+      → text.Writes p q (text_of c (take i s))
+      → text.Writes q r (hex_of (get_or s i 0) ++ gap_of e)
+      → text.Writes p r (text_of c (take (i + 1) s))
+  text-more d e u v f g =
+      let one : text_of c (take (i + 1) s) ≡ text_of c (take i s) ++ (hex_of (get_or s i 0) ++ gap_of e) = rw (v, u, split, text-append c (take i s) (get_or s i 0 ∷ []), append-nil) in
+      rw one (and_then f g)
 
 -- ---- room: a page that has 15 characters for each byte of a part holds the part's text whole
 

@@ -5,10 +5,11 @@
 #![tactic(auto)]
 
 ghost use Rattle.std.specs.Prelude.{◌≡◌, ◌++◌};
-ghost use Rattle.text.specs.Text.{pen, puts, hex_of};
-ghost use Rattle.hexes.specs.Writing.{fresh_cursor, is_over, advanced, splits_at, name_of, gap_of, end_of, Writes};
+ghost use Rattle.text.specs.Text.{pen, puts, hex_of, Writes};
+ghost use Rattle.hexes.specs.Writing.{fresh_cursor, is_over, advanced, splits_at, name_of, gap_of, end_of, Writes as WritesPart};
 
 use hexes::{Cursor, Written};
+use text::Writer;
 
 // ---- the field that is being written
 
@@ -28,7 +29,7 @@ pub fn fresh() -> Cursor
 fn is_over(cursor: Cursor) -> bool
     ensures { result ≡ is_over cursor }
 {
-    3 + tapa::pair(cursor.high, cursor.low) as usize <= cursor.at
+    cursor.at >= 3 + usize::from(tapa::pair(cursor.high, cursor.low))
 }
 
 // One byte more.
@@ -44,27 +45,22 @@ fn advance(cursor: Cursor, byte: u8) -> Cursor
             at: 1,
         };
     }
-    if cursor.at == 1 {
-        return Cursor {
-            tag: cursor.tag,
+    match cursor.at {
+        1 => Cursor {
             high: byte,
             low: 0,
             at: 2,
-        };
-    }
-    if cursor.at == 2 {
-        return Cursor {
-            tag: cursor.tag,
-            high: cursor.high,
+            ..cursor
+        },
+        2 => Cursor {
             low: byte,
             at: 3,
-        };
-    }
-    Cursor {
-        tag: cursor.tag,
-        high: cursor.high,
-        low: cursor.low,
-        at: cursor.at + 1,
+            ..cursor
+        },
+        at => Cursor {
+            at: at + 1,
+            ..cursor
+        },
     }
 }
 
@@ -75,91 +71,65 @@ fn advance(cursor: Cursor, byte: u8) -> Cursor
 fn splits(tag: u8, at: usize) -> bool
     ensures { result ≡ splits_at tag at }
 {
-    if at == 1 {
-        return true;
+    match (tag, at) {
+        (_, 1 | 3) => true,
+        (3, _) => at == 4,
+        (2, _) => matches!(at, 5 | 7 | 8 | 9 | 11),
+        _ => at == 5,
     }
-    if at == 3 {
-        return true;
-    }
-    if tag == 3 {
-        return at == 4;
-    }
-    if at == 5 {
-        return true;
-    }
-    if tag != 2 {
-        return false;
-    }
-    if at == 7 {
-        return true;
-    }
-    if at == 8 {
-        return true;
-    }
-    if at == 9 {
-        return true;
-    }
-    at == 11
 }
 
 // The end of a field's line.
 #[tactic(auto, unfolding(hexes::specs::Writing::name_of))]
-fn put_name(page: &mut [u8], at: usize, tag: u8) -> usize
-    ensures { pen page.new result ≡ puts (pen page.old at) (name_of tag) }
+fn put_name(out: &mut Writer<'_>, tag: u8)
+    ensures { Writes out.old out.new (name_of tag) }
 {
-    if tag == 1 {
-        return text::put_all(page, at, b"  # row\n");
+    match tag {
+        1 => out.put_all(b"  # row\n"),
+        2 => out.put_all(b"  # message\n"),
+        3 => out.put_all(b"  # give up\n"),
+        4 => out.put_all(b"  # replaced\n"),
+        _ => out.put_all(b"  # unknown\n"),
     }
-    if tag == 2 {
-        return text::put_all(page, at, b"  # message\n");
-    }
-    if tag == 3 {
-        return text::put_all(page, at, b"  # give up\n");
-    }
-    if tag == 4 {
-        return text::put_all(page, at, b"  # replaced\n");
-    }
-    text::put_all(page, at, b"  # unknown\n")
 }
 
 // A byte, and what stands after it. The cursor is the one after the byte.
-#[tactic(auto, unfolding(hexes::specs::Writing::gap_of))]
-fn put_byte(page: &mut [u8], at: usize, cursor: Cursor, byte: u8) -> usize
-    ensures { pen page.new result ≡ puts (pen page.old at) (hex_of byte ++ gap_of cursor) }
+#[tactic(auto, using(text::proofs::Calls::calls), unfolding(hexes::specs::Writing::gap_of))]
+fn put_byte(out: &mut Writer<'_>, cursor: Cursor, byte: u8)
+    ensures { Writes out.old out.new (hex_of byte ++ gap_of cursor) }
 {
-    let next = text::put_hex(page, at, byte);
+    out.put_hex(byte);
     if is_over(cursor) {
-        return put_name(page, next, cursor.tag);
+        put_name(out, cursor.tag);
+    } else if splits(cursor.tag, cursor.at) {
+        out.put(b' ');
     }
-    if splits(cursor.tag, cursor.at) {
-        return text::put(page, next, b' ');
-    }
-    next
 }
 
 // Writes a part of the bytes at the start of the page.
 pub fn write(cursor: Cursor, part: &[u8], page: &mut [u8]) -> Written
-    ensures { Writes cursor part.now page.old page.new result }
+    ensures { WritesPart cursor part.now page.old page.new result }
 {
+    let mut out = Writer::new(page, 0);
     let mut next = cursor;
-    let mut used = 0;
-    let mut i = 0;
-    while i < part.len() {
-        let byte = part[i];
-        next = advance(next, byte);
-        used = put_byte(page, used, next, byte);
-        i += 1;
+    for byte in part {
+        next = advance(next, *byte);
+        put_byte(&mut out, next, *byte);
     }
-    Written { used, next }
+    Written {
+        used: out.place(),
+        next,
+    }
 }
 
 // Writes the end of the last line at the start of the page, where a field was cut.
-#[tactic(auto, using(text::proofs::Laws::puts_none), unfolding(hexes::specs::Writing::end_of))]
+#[tactic(auto, using(text::proofs::Calls::calls), unfolding(hexes::specs::Writing::end_of))]
 pub fn write_end(cursor: Cursor, page: &mut [u8]) -> usize
     ensures { pen page.new result ≡ puts (pen page.old 0) (end_of cursor) }
 {
-    if is_over(cursor) {
-        return 0;
+    let mut out = Writer::new(page, 0);
+    if !is_over(cursor) {
+        out.put_all(b"  # cut\n");
     }
-    text::put_all(page, 0, b"  # cut\n")
+    out.place()
 }
