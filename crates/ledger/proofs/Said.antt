@@ -1,7 +1,7 @@
 -- What is said of a message: the returns of the writers over plain values, and that no line is longer than 1,024 bytes. Assumes nothing.
 use Prim.Native.Nat.{◌-◌, ◌<◌, ℕ, ◌≤◌}
 use Rattle.tapa.specs.declared.Refusal.{Refusal}
-use Rattle.std.specs.Prelude.{Option, Some, None, Ok, Err}
+use Rattle.std.specs.Prelude.{Result, Option, Some, None, Ok, Err}
 use mathlib.Core.List.{◌++◌, List, [], ◌∷◌}
 use mathlib.Core.Path.{ap, sym, ◌∙◌, ◌≡◌}
 use native.Mathlib.Omega.{arith}

@@ -1,5 +1,5 @@
 -- The lines that an input of commands prescribes, and what the store is after them.
-use Rattle.std.specs.Prelude.{◌+◌, suc, zero, ℕ, ◌<◌, ◌≤◌, Bool, cond, false, true, ◌++◌, List, [], ◌∷◌, ◌≡◌, ltb, drop, length, replicate, take, Option, Some, None, Ok, Err}
+use Rattle.std.specs.Prelude.{Result, ◌+◌, suc, zero, ℕ, ◌<◌, ◌≤◌, Bool, cond, false, true, ◌++◌, List, [], ◌∷◌, ◌≡◌, ltb, drop, length, replicate, take, Option, Some, None, Ok, Err}
 use Rattle.tapa.specs.declared.Refusal.{Refusal}
 use Rattle.book.specs.declared.Book.{Book}
 use Rattle.fields.specs.Fields.{Steps, broken, give-up, message, over, replaced, then}
