@@ -5,11 +5,10 @@
 // as read stand on it: these need not wait for the disk.
 #![tactic(auto)]
 
-ghost use Rattle.std.specs.Prelude.{◌≡◌};
+ghost use Rattle.std.specs.Prelude.{◌≡◌, Ok, Some};
 ghost use Rattle.fields.specs.Places.{step_at};
 ghost use Rattle.image.specs.Image.{Storable};
 ghost use Rattle.ledger.specs.Ledger.{Counted, Hearing, Paged, heard, is_broken, next_of, said_text};
-ghost use Rattle.replies.specs.declared.Answer.TheVariants.{Reply};
 ghost use Rattle.text.specs.Text.{pen, puts};
 
 use book::Book;
@@ -72,7 +71,7 @@ fn may_change(message: &[u8]) -> bool {
 
 // The first n bytes of a reply.
 fn put_reply(page: &mut [u8], at: usize, reply: &[u8], n: usize) -> usize
-    ensures { pen page.new result ≡ puts (pen page.old at) (said_text (Reply n) reply.now) }
+    ensures { pen page.new result ≡ puts (pen page.old at) (said_text (Ok (Some n)) reply.now) }
 {
     let a = text::put_all(page, at, b" reply ");
     let k = if n < reply.len() { n } else { reply.len() };
