@@ -3,3 +3,4 @@ pub mod Day
 pub mod Codes
 pub mod Limits
 pub mod Never
+pub mod Coded

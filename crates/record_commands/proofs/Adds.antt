@@ -16,6 +16,7 @@ use Rattle.book.specs.Book.{Fits, Lawful, book_of, entries_of, file_of, files_fr
 use Rattle.book.specs.declared.Book.{Book}
 use Rattle.book.specs.declared.Entry.{Entry}
 use Rattle.book.specs.declared.Kind.{Kind}
+use Rattle.files.specs.Coded.{Refused, result_code}
 use Rattle.files.specs.Files.{File, Record, add, add_code, add_code_in, add_pointer, change, free_in, free_pointer, held, keyed, look, with_record}
 use Rattle.lists.proofs.ByPlace.{all_snoc, count-snoc, few-keep}
 use Rattle.lists.proofs.Least.{count-free, least-free, least-ge, least-le, least-low}
@@ -23,7 +24,7 @@ use Rattle.lists.proofs.Tests.{clash, split}
 use Rattle.lists.specs.Least.{least}
 use Rattle.lists.specs.Lists.{All, count, keep, one}
 use Rattle.record_commands.proofs.Steps.{AddFit, add_fit, lengths-add, new-record, slot-add}
-use Rattle.record_commands.specs.Records.{add_area, add_of, code_of_add, new_entry}
+use Rattle.record_commands.specs.Records.{add_area, add_of, added_book, added_pointer, code_of_add, new_entry}
 use Rattle.record_commands.specs.Room.{RoomAdd}
 use Rattle.slots.proofs.Slots.{full-long, put-long}
 use Rattle.slots.specs.Slots.{put, slot_of}
@@ -147,10 +148,10 @@ module _ (b : Book) (area : List ℕ) (law : Lawful b area) (f : ℕ) (key d : L
     new-pointer = rw (look-made (entries_of b) area f b.kinds fit.fit.made) (ap (least 1) (sym (pointers-are area f (entries_of b))))
 
   pub record AddRight : Type 0 where
-    pub code : (add_of b area f key d).code ≡ add_code (view_of b area) f key d
-    pub pointer : (add_of b area f key d).pointer ≡ add_pointer (view_of b area) f key d
-    pub view : view_of (add_of b area f key d).next (add_area b area f key d) ≡ add (view_of b area) f key d
-    pub lawful : Lawful (add_of b area f key d).next (add_area b area f key d)
+    pub code : result_code (add_of b area f key d) ≡ add_code (view_of b area) f key d
+    pub pointer : added_pointer (add_of b area f key d) ≡ add_pointer (view_of b area) f key d
+    pub view : view_of (added_book b (add_of b area f key d)) (add_area b area f key d) ≡ add (view_of b area) f key d
+    pub lawful : Lawful (added_book b (add_of b area f key d)) (add_area b area f key d)
 
   pub add_right : AddRight
   add_right =
@@ -162,6 +163,9 @@ module _ (b : Book) (area : List ℕ) (law : Lawful b area) (f : ℕ) (key d : L
       (λ t.
       let u : eqb (add_code (view_of b area) f key d) successful ≡ false = ap (λ (n : ℕ). eqb n successful) (sym add-code-is) ∙ t in
       record { code = rw t add-code-is; pointer = rw (t, u); view = rw (t, u); lawful = rw t law })
+
+  pub add-fails : Refused (add_of b area f key d)
+  add-fails = split (eqb (code_of_add b area f key d) successful) (λ t. rw t tt) (λ t. rw t (eqb-false (code_of_add b area f key d) successful t))
 
   -- ---- room
   pub room-add : RoomAdd b area f key d

@@ -14,6 +14,7 @@ use Rattle.book.proofs.Views.{files-change, frame, look-made, look_none}
 use Rattle.book.specs.Book.{Fits, Lawful, entries_of, files_from, in_slot, key_at, kind_of, meant, no_entry, rec_of, records_of, view_of}
 use Rattle.book.specs.declared.Book.{Book}
 use Rattle.book.specs.declared.Entry.{Entry}
+use Rattle.files.specs.Coded.{left_in, result_code}
 use Rattle.files.specs.Files.{Record, change, delete, delete_code, find_delete, find_delete_code, keyed, sought}
 use Rattle.lists.proofs.ByPlace.{Hit, all-cut, count_cut, hit, length_cut}
 use Rattle.lists.proofs.Tests.{split}
@@ -61,9 +62,9 @@ module _ (b : Book) (area : List ℕ) (law : Lawful b area) (f : ℕ) (q' : Reco
 -- ---- Delete
 module _ (b : Book) (area : List ℕ) (law : Lawful b area) (f p : ℕ) where
   pub record DeleteRight : Type 0 where
-    pub code : (delete_of b f p).code ≡ delete_code (view_of b area) f p
-    pub view : view_of (delete_of b f p).next (delete_area b area f p) ≡ delete (view_of b area) f p
-    pub lawful : Lawful (delete_of b f p).next (delete_area b area f p)
+    pub code : result_code (delete_of b f p) ≡ delete_code (view_of b area) f p
+    pub view : view_of (left_in b (delete_of b f p)) (delete_area b area f p) ≡ delete (view_of b area) f p
+    pub lawful : Lawful (left_in b (delete_of b f p)) (delete_area b area f p)
 
   pub delete-right : DeleteRight
   delete-right =
@@ -81,9 +82,9 @@ module _ (b : Book) (area : List ℕ) (law : Lawful b area) (f p : ℕ) where
 -- ---- Find and Delete
 module _ (b : Book) (area : List ℕ) (law : Lawful b area) (f : ℕ) (key : List ℕ) where
   pub record FindDeleteRight : Type 0 where
-    pub code : (find_delete_of b area f key).code ≡ find_delete_code (view_of b area) f key
-    pub view : view_of (find_delete_of b area f key).next (find_delete_area b area f key) ≡ find_delete (view_of b area) f key
-    pub lawful : Lawful (find_delete_of b area f key).next (find_delete_area b area f key)
+    pub code : result_code (find_delete_of b area f key) ≡ find_delete_code (view_of b area) f key
+    pub view : view_of (left_in b (find_delete_of b area f key)) (find_delete_area b area f key) ≡ find_delete (view_of b area) f key
+    pub lawful : Lawful (left_in b (find_delete_of b area f key)) (find_delete_area b area f key)
 
   pub find-delete-right : FindDeleteRight
   find-delete-right =

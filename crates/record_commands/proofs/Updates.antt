@@ -1,6 +1,5 @@
 -- Update does to the store what it does to a plain list of files, and keeps the law.
 use Prim.Native.Nat.{◌+◌, ◌-◌, suc, zero, ℕ}
-use Rattle.std.specs.Prelude.{Option, Some, None}
 use mathlib.Core.Bool.{Bool, cond, false, not, true}
 use mathlib.Core.List.{List, [], map, ◌∷◌}
 use mathlib.Core.Path.{ap, refl, sym, ◌∙◌, ◌≡◌}
@@ -15,13 +14,15 @@ use Rattle.book.proofs.Views.{files-change, look-made, look_none}
 use Rattle.book.specs.Book.{Fits, Lawful, book_of, entries_of, files_from, in_file, in_slot, key_at, kind_of, meant, no_entry, no_kind, rec_in, rec_of, records_of, view_of}
 use Rattle.book.specs.declared.Book.{Book}
 use Rattle.book.specs.declared.Entry.{Entry}
+use Rattle.std.specs.Prelude.{Err, Ok, None, Option, Some}
+use Rattle.files.specs.Coded.{Coded, Refused, result_code}
 use Rattle.files.specs.Files.{Record, change, keyed, look, own_pointer, pointer_in, renewed, sought, update, update_code, update_pointer}
 use Rattle.lists.proofs.ByPlace.{Hit, all_set, count_cut, count_set, hit, place_inside}
 use Rattle.lists.proofs.Tests.{clash, differ, split}
 use Rattle.lists.specs.ByPlace.{cut, is_at, place}
 use Rattle.lists.specs.Lists.{All, changed, checks, count, keep, some_of, without}
-use Rattle.record_commands.proofs.Steps.{UpdateFit, fits-there, lengths, new-record, slot-alone, update-fit}
-use Rattle.record_commands.specs.Records.{resized, update_area, update_at, update_of, update_seen}
+use Rattle.record_commands.proofs.Steps.{UpdateFit, fits-there, lengths, new-record, seen-fails, slot-alone, update-fit}
+use Rattle.record_commands.specs.Records.{added_book, added_pointer, resized, update_area, update_at, update_of, update_seen}
 use Rattle.sights.specs.declared.Got.{Got}
 use Rattle.slots.proofs.Slots.{full-long, put-long, window-other}
 use Rattle.slots.specs.Slots.{put, slot_of}
@@ -72,7 +73,7 @@ module _ (b : Book) (area : List ℕ) (law : Lawful b area) (f p : ℕ) (key d :
       ∙ ap (λ (l : List Entry). some_of (keyed key) (records_of area f l)) (hit no_entry (meant f p) (entries_of b) i e).gone
       ∙ ap (some_of (keyed key)) (drop-keep f (rec_of area) (sought p) (entries_of b))
 
-  update-code-is : (update_seen b area f p key d).code ≡ update_code (view_of b area) f p key d
+  update-code-is : result_code (update_seen b area f p key d) ≡ update_code (view_of b area) f p key d
   update-code-is =
       let k = kind_of b.kinds f in
       split k.made
@@ -82,7 +83,7 @@ module _ (b : Book) (area : List ℕ) (law : Lawful b area) (f p : ℕ) (key d :
       (λ t. rw (look_none (entries_of b) area f b.kinds t, t))
     where
       go : (z : Option ℕ) → place (meant f p) 0 (entries_of b) ≡ z
-          → (update_at b area f key (place (meant f p) 0 (entries_of b))).code
+          → result_code (update_at b area f key (place (meant f p) 0 (entries_of b)))
           ≡ checks
           ((not (some_of (sought p) (records_of area f (entries_of b))), invalid_record_pointer)
           ∷ (cond (ltb 0 (kind_of b.kinds f).keymax) (some_of (keyed key) (without (sought p) (records_of area f (entries_of b)))) false, search_key_existing)
@@ -157,20 +158,28 @@ module _ (b : Book) (area : List ℕ) (law : Lawful b area) (f p : ℕ) (key d :
     own-told = rw (look-made l area f b.kinds fit.fit.made) (sym (ap own_pointer (seek_hit f (rec_of area) (sought p) l i fit.found)))
 
   pub record UpdateRight : Type 0 where
-    pub code : (update_of b area f p key d).code ≡ update_code (view_of b area) f p key d
-    pub pointer : (update_of b area f p key d).pointer ≡ update_pointer (view_of b area) f p key d
-    pub view : view_of (update_of b area f p key d).next (update_area b area f p key d) ≡ update (view_of b area) f p key d
-    pub lawful : Lawful (update_of b area f p key d).next (update_area b area f p key d)
+    pub code : result_code (update_of b area f p key d) ≡ update_code (view_of b area) f p key d
+    pub pointer : added_pointer (update_of b area f p key d) ≡ update_pointer (view_of b area) f p key d
+    pub view : view_of (added_book b (update_of b area f p key d)) (update_area b area f p key d) ≡ update (view_of b area) f p key d
+    pub lawful : Lawful (added_book b (update_of b area f p key d)) (update_area b area f p key d)
 
   pub update-right : UpdateRight
-  update-right =
-      let g = update_seen b area f p key d in
-      split (eqb g.code successful)
-      (λ t.
-      let z : g.code ≡ successful = eqb-true g.code successful t in
-      let fit = update-fit b area f p key d g refl z in
-      let u : eqb (update_code (view_of b area) f p key d) successful ≡ true = ap (λ (n : ℕ). eqb n successful) (sym update-code-is) ∙ t in
-      record { code = rw t (sym z ∙ update-code-is); pointer = rw (t, u) (fit.own ∙ own-told g fit); view = rw (t, u) (renewed-view g fit); lawful = rw t (renewed-law g fit) })
-      (λ t.
-      let u : eqb (update_code (view_of b area) f p key d) successful ≡ false = ap (λ (n : ℕ). eqb n successful) (sym update-code-is) ∙ t in
-      record { code = rw t update-code-is; pointer = rw (t, u); view = rw (t, u); lawful = rw t law })
+  update-right = go (update_seen b area f p key d) refl
+    where
+      go : (r : Coded Got) → update_seen b area f p key d ≡ r → UpdateRight
+      go (Ok g) e =
+          let fit = update-fit b area f p key d g (sym e) in
+          let c : update_code (view_of b area) f p key d ≡ successful = sym update-code-is ∙ ap result_code e in
+          record { code = rw e (sym c); pointer = rw (e, c) (fit.own ∙ own-told g fit); view = rw (e, c) (renewed-view g fit); lawful = rw e (renewed-law g fit) }
+      go (Err n) e =
+          let c : update_code (view_of b area) f p key d ≡ n = sym update-code-is ∙ ap result_code e in
+          let o : n ≡ successful → ⊥ = seen-fails b area f p key d n (sym e) in
+          let u : eqb (update_code (view_of b area) f p key d) successful ≡ false = rw c (ne_eqb n successful o) in
+          record { code = rw e (sym c); pointer = rw (e, u); view = rw (e, u); lawful = rw e law }
+
+  pub update-fails : Refused (update_of b area f p key d)
+  update-fails = go (update_seen b area f p key d) refl
+    where
+      go : (r : Coded Got) → update_seen b area f p key d ≡ r → Refused (update_of b area f p key d)
+      go (Ok g) e = rw e tt
+      go (Err n) e = rw e (seen-fails b area f p key d n (sym e))

@@ -2,9 +2,10 @@
 use Rattle.std.specs.Prelude.{◌<◌, ℕ, ◌≤◌, cond, false, true, List, map, ◌≡◌, eqb, leb, ltb, length, Some}
 use Rattle.book.specs.Book.{view_of}
 use Rattle.book.specs.declared.Book.{Book}
+use Rattle.files.specs.Coded.{result_code}
 use Rattle.files.specs.Files.{File, Record, held, keyed, look}
 use Rattle.lists.specs.Lists.{some_of}
-use Rattle.record_commands.specs.Records.{add_of}
+use Rattle.record_commands.specs.Records.{add_of, added_pointer}
 use Rattle.tapa.specs.Codes.{insufficient_resources, successful}
 
 -- an Add with nothing wrong but that there may be no room: lengths within the file's, and no record with the key in a file with keys
@@ -24,5 +25,5 @@ pub record NewPointer (rs : List Record) (p : ℕ) : Type 0 where
 pub record RoomAdd (b : Book) (area : List ℕ) (f : ℕ) (key d : List ℕ) : Type 0 where
   pub few : held (view_of b area) ≤ 256
   pub code : (g : File) → look f (view_of b area) ≡ Some g → Addable g key d
-      → (add_of b area f key d).code ≡ cond (leb 256 (held (view_of b area))) insufficient_resources successful
-  pub pointer : (g : File) → look f (view_of b area) ≡ Some g → (add_of b area f key d).code ≡ successful → NewPointer g.records (add_of b area f key d).pointer
+      → result_code (add_of b area f key d) ≡ cond (leb 256 (held (view_of b area))) insufficient_resources successful
+  pub pointer : (g : File) → look f (view_of b area) ≡ Some g → result_code (add_of b area f key d) ≡ successful → NewPointer g.records (added_pointer (add_of b area f key d))

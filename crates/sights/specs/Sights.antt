@@ -1,9 +1,10 @@
 -- What Get and Find answer of the book, and what that shows over the area.
-use Rattle.std.specs.Prelude.{◌+◌, ℕ, cond, not, List, [], ◌∷◌, eqb, ltb, drop, get_or, length, take, Option, Some, None}
+use Rattle.std.specs.Prelude.{Err, Ok, ◌+◌, ℕ, cond, not, List, [], ◌∷◌, eqb, ltb, drop, get_or, length, take, None, Option, Some}
 use Rattle.book.specs.Book.{entries_of, in_file, key_at, kind_of, meant, no_entry, pointer_at, rec_of}
 use Rattle.book.specs.declared.Book.{Book}
 use Rattle.book.specs.declared.Entry.{Entry}
-use Rattle.files.specs.Files.{Sight, nextward}
+use Rattle.files.specs.Coded.{Coded}
+use Rattle.files.specs.Files.{Sight, nextward, unseen}
 use Rattle.lists.specs.ByPlace.{last, place}
 use Rattle.lists.specs.Lists.{checks}
 use Rattle.sights.specs.declared.Got.{Got}
@@ -18,31 +19,29 @@ seek_at o f p l =
 abbrev pub other_at : ℕ → ℕ → List Entry → ℕ → ℕ
 other_at o f l i = cond (nextward o) (pointer_at l (place (meant f 0) (i + 1) (drop (i + 1) l))) (pointer_at l (last (in_file f) (take i l)))
 
-abbrev pub none_got : ℕ → Got
-none_got n = record { code = n; at = 0; other = 0 }
+abbrev pub got_at : ℕ → ℕ → List Entry → Option ℕ → Coded Got
+got_at o f l None = Err (cond (ltb o 2) invalid_record_pointer file_seek_error)
+got_at o f l (Some i) = Ok (record { at = i; other = other_at o f l i })
 
-abbrev pub got_at : ℕ → ℕ → List Entry → Option ℕ → Got
-got_at o f l None = none_got (cond (ltb o 2) invalid_record_pointer file_seek_error)
-got_at o f l (Some i) = record { code = successful; at = i; other = other_at o f l i }
-
-abbrev pub get_of : Book → ℕ → ℕ → ℕ → Got
+abbrev pub get_of : Book → ℕ → ℕ → ℕ → Coded Got
 get_of b f p o =
-    cond (kind_of b.kinds f).made (got_at o f (entries_of b) (seek_at o f p (entries_of b))) (none_got invalid_file_id)
+    cond (kind_of b.kinds f).made (got_at o f (entries_of b) (seek_at o f p (entries_of b))) (Err invalid_file_id)
 
 -- ---- Find
 
-abbrev pub found_at : List Entry → Option ℕ → Got
-found_at l None = none_got file_seek_error
-found_at l (Some i) = record { code = successful; at = i; other = (get_or l i no_entry).pointer }
+abbrev pub found_at : List Entry → Option ℕ → Coded Got
+found_at l None = Err file_seek_error
+found_at l (Some i) = Ok (record { at = i; other = (get_or l i no_entry).pointer })
 
-abbrev pub find_of : Book → List ℕ → ℕ → List ℕ → Got
+abbrev pub find_of : Book → List ℕ → ℕ → List ℕ → Coded Got
 find_of b area f key =
     checks
-    ((not (kind_of b.kinds f).made, none_got invalid_file_id)
-    ∷ (ltb (kind_of b.kinds f).keymax (length key), none_got search_key_too_large)
+    ((not (kind_of b.kinds f).made, Err invalid_file_id)
+    ∷ (ltb (kind_of b.kinds f).keymax (length key), Err search_key_too_large)
     ∷ [])
     (found_at (entries_of b) (place (key_at area f key) 0 (entries_of b)))
 
 -- what an answer of the code says, over the area
-abbrev pub sight_of : List ℕ → List Entry → Got → Sight
-sight_of area l g = record { code = g.code; it = cond (eqb g.code successful) (Some (rec_of area (get_or l g.at no_entry))) None; pointer = g.other }
+abbrev pub sight_of : List ℕ → List Entry → Coded Got → Sight
+sight_of area l (Ok g) = record { code = successful; it = Some (rec_of area (get_or l g.at no_entry)); pointer = g.other }
+sight_of area l (Err n) = unseen n

@@ -1,37 +1,26 @@
 // What the data store shows (section 11): Get and Find, which change nothing.
 //
-// Get goes by a pointer and an orientation, Find by a key. The answer is the response code, the
-// record's place in the book, and the pointer that the response carries. That this is what the
+// Get goes by a pointer and an orientation, Find by a key. The answer is the record's place in the
+// book, and the pointer that the response carries; or else the response code. That this is what the
 // command shows of a plain list of files is one theorem each: proofs/Sights.antt.
 //
 // Get walks the entries once: the look for the next record goes on from the place where the record
 // was found, and that for the previous one goes back from there.
 #![tactic(auto)]
 
-ghost use Rattle.std.specs.Prelude.{◌<◌, ◌≡◌};
+ghost use Rattle.std.specs.Prelude.{◌<◌, ◌≡◌, cond, ltb};
 ghost use Rattle.book.specs.Book.{Lawful, Shaped, entries_of, pointer_at};
 ghost use Rattle.files.specs.Files.{nextward};
-ghost use Rattle.sights.specs.Sights.{find_of, get_of, none_got, other_at, seek_at};
+ghost use Rattle.sights.specs.Sights.{find_of, get_of, other_at, seek_at};
+ghost use Rattle.tapa.specs.Codes.{file_seek_error, invalid_record_pointer};
 
 use book::Book;
 
-// The code, a record's place in the book, and a pointer: the next or the previous one's, or its own.
+// A record's place in the book, and a pointer: the next or the previous one's, or its own.
 #[derive(Clone, Copy)]
 pub struct Got {
-    pub code: u16,
     pub at: usize,
     pub other: u16,
-}
-
-// Nothing but a code.
-pub fn none_got(code: u16) -> Got
-    ensures { result ≡ none_got code }
-{
-    Got {
-        code,
-        at: 0,
-        other: 0,
-    }
 }
 
 // ---- Get
@@ -41,10 +30,7 @@ fn pointer_at(b: Book, at: Option<usize>) -> u16
     ensures { result ≡ pointer_at (entries_of b) at }
 {
     match at {
-        Some(i) => {
-            let x = store_entries::entry_at(b, i);
-            x.pointer
-        }
+        Some(i) => store_entries::entry_at(b, i).pointer,
         None => 0,
     }
 }
@@ -52,10 +38,7 @@ fn pointer_at(b: Book, at: Option<usize>) -> u16
 fn is_nextward(o: u8) -> bool
     ensures { result ≡ nextward o }
 {
-    if o == 0 {
-        return true;
-    }
-    o == 2
+    o == 0 || o == 2
 }
 
 // The pointer of the next record of the file, or of the previous one.
@@ -89,52 +72,43 @@ fn seek(b: Book, f: u16, p: u16, o: u8) -> Option<usize>
     store_entries::last_before(b, store_entries::held(b), f)
 }
 
-pub fn get(b: Book, f: u16, p: u16, o: u8) -> Got
+// The code of a Get that finds no record.
+fn missing(o: u8) -> u16
+    ensures { result ≡ cond (ltb o 2) invalid_record_pointer file_seek_error }
+{
+    if o < 2 {
+        tapa::INVALID_RECORD_POINTER
+    } else {
+        tapa::FILE_SEEK_ERROR
+    }
+}
+
+pub fn get(b: Book, f: u16, p: u16, o: u8) -> Result<Got, u16>
     requires { Shaped b }
     ensures { result ≡ get_of b f p o }
 {
-    let k = store_kinds::kind_of(b, f);
-    if !k.made {
-        return none_got(tapa::INVALID_FILE_ID);
+    if !store_kinds::kind_of(b, f).made {
+        return Err(tapa::INVALID_FILE_ID);
     }
-    match seek(b, f, p, o) {
-        Some(i) => Got {
-            code: tapa::SUCCESSFUL,
-            at: i,
-            other: other_pointer(b, f, o, i),
-        },
-        None => {
-            if o < 2 {
-                none_got(tapa::INVALID_RECORD_POINTER)
-            } else {
-                none_got(tapa::FILE_SEEK_ERROR)
-            }
-        }
-    }
+    let at = seek(b, f, p, o).ok_or(missing(o))?;
+    let other = other_pointer(b, f, o, at);
+    Ok(Got { at, other })
 }
 
 // ---- Find
 
-pub fn find(b: Book, area: &[u8], f: u16, key: &[u8]) -> Got
+pub fn find(b: Book, area: &[u8], f: u16, key: &[u8]) -> Result<Got, u16>
     requires { Lawful b area.now }
     ensures { result ≡ find_of b area.now f key.now }
 {
     let k = store_kinds::kind_of(b, f);
     if !k.made {
-        return none_got(tapa::INVALID_FILE_ID);
+        return Err(tapa::INVALID_FILE_ID);
     }
-    if (k.keymax as usize) < key.len() {
-        return none_got(tapa::SEARCH_KEY_TOO_LARGE);
+    if usize::from(k.keymax) < key.len() {
+        return Err(tapa::SEARCH_KEY_TOO_LARGE);
     }
-    match store_entries::with_key(b, area, 0, f, key) {
-        Some(i) => {
-            let x = store_entries::entry_at(b, i);
-            Got {
-                code: tapa::SUCCESSFUL,
-                at: i,
-                other: x.pointer,
-            }
-        }
-        None => none_got(tapa::FILE_SEEK_ERROR),
-    }
+    let at = store_entries::with_key(b, area, 0, f, key).ok_or(tapa::FILE_SEEK_ERROR)?;
+    let other = store_entries::entry_at(b, at).pointer;
+    Ok(Got { at, other })
 }

@@ -2,7 +2,7 @@
 use Prim.Native.Nat.{◌+◌, ◌-◌, ◌<◌, suc, zero, ℕ, ◌≤◌}
 use mathlib.Core.Bool.{Bool, false, true}
 use mathlib.Core.List.{List}
-use mathlib.Core.Path.{ap, refl, subst, ◌∙◌, ◌≡◌}
+use mathlib.Core.Path.{ap, refl, subst, sym, ◌∙◌, ◌≡◌}
 use native.Mathlib.Omega.{arith}
 use lib.Dec.{eqb}
 use lib.ListN.{drop, get_or, length, length-append, length-drop, length-replicate, take}
@@ -14,14 +14,15 @@ use Rattle.book.specs.declared.Book.{Book}
 use Rattle.file_commands.proofs.Creates.{create-right, create-room}
 use Rattle.file_commands.specs.Erasing.{code_of_create, create_ids, create_of, made_book, made_ids, padded}
 use Rattle.file_commands.specs.declared.Made.{Made}
-use Rattle.files.specs.Asked.{carrying, data_from, get_shape, key_from, key_len, key_shape, mark_shape, rec_len, record_shape, seen_part, words_of}
+use Rattle.files.specs.Asked.{data_from, get_shape, key_from, key_len, key_shape, mark_shape, rec_len, record_shape, seen_part, words_of}
 use Rattle.files.specs.Coded.{Coded, answered, left_in, result_code}
+use Rattle.files.specs.Files.{unseen}
 use Rattle.lists.proofs.Tests.{and_yes, split}
+use Rattle.record_commands.specs.Records.{added_book}
 use Rattle.record_commands.specs.declared.Added.{Added}
-use Rattle.record_commands.specs.declared.Deleted.{Deleted}
 use Rattle.sights.specs.Sights.{sight_of}
 use Rattle.sights.specs.declared.Got.{Got}
-use Rattle.store.specs.Store.{Deed, Did, MakesAtMost, Roomy, Says, add_deed, added_deed, clear_deed, code_deed, create_deed, deed_if, deed_of, delete_deed, delete_files_deed, deleted_deed, gone_deed, ids_part, find_deed, find_delete_deed, get_deed, mark_deed, shown_deed, update_deed}
+use Rattle.store.specs.Store.{Deed, Did, MakesAtMost, Roomy, Says, add_deed, added_deed, clear_deed, code_deed, create_deed, deed_if, deed_of, delete_deed, delete_files_deed, gone_deed, ids_part, pointer_part, find_deed, find_delete_deed, get_deed, mark_deed, shown_deed, update_deed}
 use Rattle.store.specs.declared.Done.{Done}
 use Rattle.tapa.specs.Codes.{add_record, clear_file, close_handler, create_file, delete_file, delete_record, find_and_delete, find_record, get_record, open_handler, successful, unsupported_operation, update_record}
 use Rattle.tapa.specs.Numbers.{two_bytes, word_at}
@@ -33,10 +34,14 @@ pub wrong : (t : Bool) (d : Deed) (b : Book) (area before after : List ℕ) (r :
 wrong t d b area before after r law e s = rw e (record { says = s; area' = refl; law = law })
 
 -- what Get or Find got is shown
-pub seen : (t : Bool) (g h : Got) (b : Book) (area before after : List ℕ) (r : Done) → Lawful b area → t ≡ true → g ≡ h
+pub seen : (t : Bool) (g h : Coded Got) (b : Book) (area before after : List ℕ) (r : Done) → Lawful b area → t ≡ true → g ≡ h
     → Says (seen_part (sight_of area (entries_of b) g)) before after b r → Did (deed_if t (shown_deed h b area) b area) before after area r
 seen t g h b area before after r law e k s =
-    rw e (record { says = subst (λ (z : Got). Says (seen_part (sight_of area (entries_of b) z)) before after b r) k s; area' = refl; law = law })
+    rw e (record { says = subst (λ (z : Coded Got). Says (seen_part (sight_of area (entries_of b) z)) before after b r) k s; area' = refl; law = law })
+
+-- where they got none, the code stands alone
+pub unseen-alone : (n : ℕ) → seen_part (unseen n) ≡ two_bytes n
+unseen-alone n = split (eqb n successful) (λ t. rw t (ap two_bytes (sym (eqb-true n successful t)))) (λ t. rw t)
 
 -- ---- files or records went, or one was written: the code and the next book, and what the area then holds
 
@@ -45,15 +50,10 @@ pub gone-did : (t : Bool) (g e : Coded Book) (b : Book) (area a after₁ before 
 gone-did t g e b area a after₁ before after r law te ge ea s =
     rw te (record { says = subst (λ (z : Coded Book). Says (two_bytes (result_code z)) before after (left_in b z) r) ge s; area' = ea; law = law })
 
-pub deleted-did : (t : Bool) (g e : Deleted) (b : Book) (area a after₁ before after : List ℕ) (r : Done) → Lawful e.next a → t ≡ true → g ≡ e → after₁ ≡ a
-    → Says (two_bytes g.code) before after g.next r → Did (deed_if t (deleted_deed e a) b area) before after after₁ r
-deleted-did t g e b area a after₁ before after r law te ge ea s =
-    rw te (record { says = subst (λ (z : Deleted). Says (two_bytes z.code) before after z.next r) ge s; area' = ea; law = law })
-
-pub added-did : (t : Bool) (g e : Added) (b : Book) (area a after₁ before after : List ℕ) (r : Done) → Lawful e.next a → t ≡ true → g ≡ e → after₁ ≡ a
-    → Says (carrying g.code (two_bytes g.pointer)) before after g.next r → Did (deed_if t (added_deed e a) b area) before after after₁ r
+pub added-did : (t : Bool) (g e : Coded Added) (b : Book) (area a after₁ before after : List ℕ) (r : Done) → Lawful (added_book b e) a → t ≡ true → g ≡ e → after₁ ≡ a
+    → Says (answered pointer_part g) before after (added_book b g) r → Did (deed_if t (added_deed e b a) b area) before after after₁ r
 added-did t g e b area a after₁ before after r law te ge ea s =
-    rw te (record { says = subst (λ (z : Added). Says (carrying z.code (two_bytes z.pointer)) before after z.next r) ge s; area' = ea; law = law })
+    rw te (record { says = subst (λ (z : Coded Added). Says (answered pointer_part z) before after (added_book b z) r) ge s; area' = ea; law = law })
 
 -- ---- Create
 

@@ -10,7 +10,7 @@ use lib.Dec.{eqb}
 use lib.ListN.{drop, get_or, length, take}
 use lib.Seq.{get_or-drop, take_at}
 use borrow.Author.Tests.{eqb-true, ne_eqb}
-use Rattle.std.specs.Prelude.{Result, Err, Ok, Some}
+use Rattle.std.specs.Prelude.{Err, Ok, Result, Some}
 use Rattle.book.specs.Book.{Lawful, view_of}
 use Rattle.book.specs.declared.Book.{Book}
 use Rattle.file_commands.proofs.Creates.{CreateRight, create-fails, create-right}
@@ -23,13 +23,15 @@ use Rattle.files.specs.Files.{File, create_code, create_one, new_ids}
 use Rattle.lists.proofs.Tests.{checks-twin, split}
 use Rattle.lists.specs.Lists.{Bytes}
 use Rattle.message.specs.Message.{part_of, read_of, reads}
-use Rattle.record_commands.proofs.Adds.{add_right}
+use Rattle.record_commands.proofs.Adds.{add-fails, add_right}
 use Rattle.record_commands.proofs.Deletes.{delete-right, find-delete-right}
-use Rattle.record_commands.proofs.Updates.{update-right}
+use Rattle.record_commands.proofs.Updates.{update-fails, update-right}
+use Rattle.record_commands.specs.Records.{add_of, added_pointer, update_of}
+use Rattle.record_commands.specs.declared.Added.{Added}
 use Rattle.replies.specs.Replies.{answer_of, replied}
 use Rattle.sights.proofs.Sights.{find-right, get-right}
 use Rattle.store.specs.Plain.{Told, tells_after, told_of}
-use Rattle.store.specs.Store.{Deed, Answered, add_deed, checked, clear_deed, code_deed, create_deed, deed_if, deed_of, delete_deed, delete_files_deed, find_deed, find_delete_deed, get_deed, handled, ids_part, made_deed, mark_deed, obeys, update_deed}
+use Rattle.store.specs.Store.{Deed, Answered, add_deed, checked, clear_deed, code_deed, create_deed, deed_if, deed_of, delete_deed, delete_files_deed, find_deed, find_delete_deed, get_deed, handled, ids_part, made_deed, mark_deed, obeys, pointer_part, update_deed}
 use Rattle.tapa.specs.Codes.{add_record, clear_file, close_handler, create_file, delete_file, delete_record, find_and_delete, find_record, get_record, open_handler, successful, unsupported_operation, update_record}
 use Rattle.tapa.specs.Numbers.{two_bytes, word_at}
 
@@ -56,6 +58,9 @@ module _ {A : Type 0} (fields : A → List ℕ) where
   alone : (r : Coded A) (code : ℕ) → result_code r ≡ code → 0 < code → answered fields r ≡ two_bytes code
   alone (Ok a) code c h = let z : successful ≡ code = c in absurd (omega arith)
   alone (Err m) code c h = ap two_bytes c
+
+pointed : (g : Coded Added) (p : ℕ) → added_pointer g ≡ p → (a : Added) → g ≡ Ok a → pointer_part a ≡ two_bytes p
+pointed g p e a k = ap two_bytes (ap added_pointer (sym k) ∙ e)
 
 module _ (b : Book) (area : List ℕ) (law : Lawful b area) where
   abbrev s : List File
@@ -126,7 +131,12 @@ module _ (b : Book) (area : List ℕ) (law : Lawful b area) where
     pub add-does : Right (add_deed part b area) (shaped (record_shape 2 part) (on_add part s) s)
     add-does =
         let r = add_right b area law (file_in part) (key_from part 2) (data_from part 2) in
-        by_shape (record_shape 2 part) _ _ (λ t. record { part = (λ i. carrying (r.code i) (two_bytes (r.pointer i))); files = r.view; lawful = r.lawful })
+        let g = add_of b area (file_in part) (key_from part 2) (data_from part 2) in
+        by_shape (record_shape 2 part) _ _ (λ t. record {
+          part = carried pointer_part g _ _ r.code (add-fails b area law (file_in part) (key_from part 2) (data_from part 2)) (pointed g _ r.pointer);
+          files = r.view;
+          lawful = r.lawful;
+        })
 
     -- ---- Get File Record
 
@@ -138,7 +148,12 @@ module _ (b : Book) (area : List ℕ) (law : Lawful b area) where
     pub update-does : Right (update_deed part b area) (shaped (record_shape 4 part) (on_update part s) s)
     update-does =
         let r = update-right b area law (file_in part) (word_at part 2) (key_from part 4) (data_from part 4) in
-        by_shape (record_shape 4 part) _ _ (λ t. record { part = (λ i. carrying (r.code i) (two_bytes (r.pointer i))); files = r.view; lawful = r.lawful })
+        let g = update_of b area (file_in part) (word_at part 2) (key_from part 4) (data_from part 4) in
+        by_shape (record_shape 4 part) _ _ (λ t. record {
+          part = carried pointer_part g _ _ r.code (update-fails b area law (file_in part) (word_at part 2) (key_from part 4) (data_from part 4)) (pointed g _ r.pointer);
+          files = r.view;
+          lawful = r.lawful;
+        })
 
     -- ---- Find and Get File Record
 

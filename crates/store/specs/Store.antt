@@ -4,14 +4,13 @@ use Rattle.book.specs.Book.{Lawful, entries_of}
 use Rattle.book.specs.declared.Book.{Book}
 use Rattle.file_commands.specs.Erasing.{clear_area, clear_of, create_of, delete_files_area, delete_files_of, made_book}
 use Rattle.file_commands.specs.declared.Made.{Made}
-use Rattle.files.specs.Asked.{carrying, data_from, file_in, get_shape, ids_of, ids_shape, key_from, key_shape, mark_shape, record_shape, seen_part, words_of}
+use Rattle.files.specs.Asked.{data_from, file_in, get_shape, ids_of, ids_shape, key_from, key_shape, mark_shape, record_shape, seen_part, words_of}
 use Rattle.files.specs.Coded.{Coded, answered, left_in, result_code}
 use Rattle.lists.specs.Lists.{checks, onto}
 use Rattle.message.specs.Message.{part_of}
 use Rattle.message.specs.declared.Head.{Head}
-use Rattle.record_commands.specs.Records.{add_area, add_of, delete_area, delete_of, find_delete_area, find_delete_of, update_area, update_of}
+use Rattle.record_commands.specs.Records.{add_area, add_of, added_book, delete_area, delete_of, find_delete_area, find_delete_of, update_area, update_of}
 use Rattle.record_commands.specs.declared.Added.{Added}
-use Rattle.record_commands.specs.declared.Deleted.{Deleted}
 use Rattle.replies.specs.Checked.{opened, owned}
 use Rattle.replies.specs.Replies.{answer_of, replied}
 use Rattle.sights.specs.Sights.{find_of, get_of, sight_of}
@@ -66,15 +65,19 @@ gone_deed r b area = code_deed (result_code r) (left_in b r) area
 abbrev pub delete_files_deed : List ℕ → Book → List ℕ → Deed
 delete_files_deed part b area = deed_if (ids_shape part) (gone_deed (delete_files_of b (ids_of part)) b (delete_files_area b (ids_of part) area)) b area
 
-abbrev pub added_deed : Added → List ℕ → Deed
-added_deed a area = record { part = carrying a.code (two_bytes a.pointer); book = a.next; area = area }
+-- a record was added or updated: its pointer
+abbrev pub pointer_part : Added → List ℕ
+pointer_part a = two_bytes a.pointer
+
+abbrev pub added_deed : Coded Added → Book → List ℕ → Deed
+added_deed r b area = record { part = answered pointer_part r; book = added_book b r; area = area }
 
 abbrev pub add_deed : List ℕ → Book → List ℕ → Deed
 add_deed part b area =
     deed_if (record_shape 2 part)
-    (added_deed (add_of b area (file_in part) (key_from part 2) (data_from part 2)) (add_area b area (file_in part) (key_from part 2) (data_from part 2))) b area
+    (added_deed (add_of b area (file_in part) (key_from part 2) (data_from part 2)) b (add_area b area (file_in part) (key_from part 2) (data_from part 2))) b area
 
-abbrev pub shown_deed : Got → Book → List ℕ → Deed
+abbrev pub shown_deed : Coded Got → Book → List ℕ → Deed
 shown_deed g b area = record { part = seen_part (sight_of area (entries_of b) g); book = b; area = area }
 
 abbrev pub get_deed : List ℕ → Book → List ℕ → Deed
@@ -83,23 +86,20 @@ get_deed part b area = deed_if (get_shape part) (shown_deed (get_of b (file_in p
 abbrev pub update_deed : List ℕ → Book → List ℕ → Deed
 update_deed part b area =
     deed_if (record_shape 4 part)
-    (added_deed (update_of b area (file_in part) (word_at part 2) (key_from part 4) (data_from part 4))
+    (added_deed (update_of b area (file_in part) (word_at part 2) (key_from part 4) (data_from part 4)) b
     (update_area b area (file_in part) (word_at part 2) (key_from part 4) (data_from part 4))) b area
 
 abbrev pub find_deed : List ℕ → Book → List ℕ → Deed
 find_deed part b area = deed_if (key_shape part) (shown_deed (find_of b area (file_in part) (key_from part 2)) b area) b area
 
-abbrev pub deleted_deed : Deleted → List ℕ → Deed
-deleted_deed d area = code_deed d.code d.next area
-
 abbrev pub delete_deed : List ℕ → Book → List ℕ → Deed
 delete_deed part b area =
-    deed_if (eqb (length part) 4) (deleted_deed (delete_of b (file_in part) (word_at part 2)) (delete_area b area (file_in part) (word_at part 2))) b area
+    deed_if (eqb (length part) 4) (gone_deed (delete_of b (file_in part) (word_at part 2)) b (delete_area b area (file_in part) (word_at part 2))) b area
 
 abbrev pub find_delete_deed : List ℕ → Book → List ℕ → Deed
 find_delete_deed part b area =
     deed_if (key_shape part)
-    (deleted_deed (find_delete_of b area (file_in part) (key_from part 2)) (find_delete_area b area (file_in part) (key_from part 2))) b area
+    (gone_deed (find_delete_of b area (file_in part) (key_from part 2)) b (find_delete_area b area (file_in part) (key_from part 2))) b area
 
 abbrev pub clear_deed : List ℕ → Book → List ℕ → Deed
 clear_deed part b area = deed_if (eqb (length part) 2) (gone_deed (clear_of b (file_in part)) b (clear_area b area (file_in part))) b area
@@ -171,9 +171,9 @@ pub record Roomy (n : ℕ) (m : Made) : Type 0 where
 abbrev pub MakesAtMost : ℕ → Coded Made → Type 0
 MakesAtMost n r = IfOk r (Roomy n)
 
--- what Get or Find got is a record of the book, where its code is '0000'
-abbrev pub Shows : Book → Got → Type 0
-Shows b g = g.code ≡ successful → g.at < length (entries_of b)
+-- what Get or Find got is a record of the book
+abbrev pub Shows : Book → Coded Got → Type 0
+Shows b r = IfOk r (λ g. g.at < length (entries_of b))
 
 -- a call that came to this: its answer and next book, and what the lent memory then holds; the law of book and area is kept
 pub record Handling (w : Answered) (area reply : List ℕ) (h : Handled) : Type 0 where

@@ -9,16 +9,18 @@
 
 ghost use Rattle.std.specs.Prelude.{Some, ◌*◌, ◌+◌, ◌≤◌, ◌≡◌, length, take};
 ghost use Rattle.book.specs.Book.{Lawful, entries_of, rec_of};
-ghost use Rattle.files.specs.Asked.{carrying, seen_part, sight_bytes, words_of};
+ghost use Rattle.files.specs.Asked.{seen_part, sight_bytes, words_of};
 ghost use Rattle.file_commands.specs.Erasing.{made_book};
 ghost use Rattle.files.specs.Coded.{answered, left_in, result_code};
 ghost use Rattle.lists.specs.Lists.{over};
+ghost use Rattle.record_commands.specs.Records.{added_book};
 ghost use Rattle.sights.specs.Sights.{sight_of};
-ghost use Rattle.store.specs.Store.{Did, Handling, MakesAtMost, Says, Shows, add_deed, clear_deed, create_deed, deed_of, delete_deed, delete_files_deed, find_deed, find_delete_deed, get_deed, handled, ids_part, mark_deed, update_deed};
+ghost use Rattle.store.specs.Store.{Did, Handling, MakesAtMost, Says, Shows, add_deed, clear_deed, create_deed, deed_of, delete_deed, delete_files_deed, find_deed, find_delete_deed, get_deed, handled, ids_part, mark_deed, pointer_part, update_deed};
 ghost use Rattle.tapa.specs.Numbers.{two_bytes};
 
 use book::{Book, Entry};
 use file_commands::Made;
+use record_commands::Added;
 use sights::Got;
 use store::{Done, Handled};
 
@@ -109,36 +111,39 @@ fn made(b: Book, body: &mut [u8], n: usize, done: Result<Made, u16>) -> Done
     }
 }
 
-// A response of a pointer and a code; of a code alone where the command failed.
-fn code_behind(b: Book, body: &mut [u8], code: u16, pointer: u16) -> Done
+// A response of a record's pointer and a code; of a code alone where the command failed.
+fn added(b: Book, body: &mut [u8], done: Result<Added, u16>) -> Done
     requires { 390 ≤ length body.old }
-    ensures { Says (carrying code (two_bytes pointer)) body.old body.new b result }
+    ensures { Says (answered pointer_part done) body.old body.new (added_book b done) result }
 {
-    if code != tapa::SUCCESSFUL {
-        return code_alone(b, body, code);
-    }
-    let n = put_word(body, 0, pointer);
-    Done {
-        long: put_word(body, n, code),
-        next: b,
+    match done {
+        Ok(added) => {
+            let end = put_word(body, 0, added.pointer);
+            Done {
+                long: put_word(body, end, tapa::SUCCESSFUL),
+                next: added.next,
+            }
+        }
+        Err(code) => code_alone(b, body, code),
     }
 }
 
-// A response with what Get or Find got.
-fn shown(b: Book, area: &[u8], body: &mut [u8], got: Got) -> Done
+// A response with what Get or Find got; of a code alone where the command failed.
+fn shown(b: Book, area: &[u8], body: &mut [u8], done: Result<Got, u16>) -> Done
     requires lawful { Lawful b area.now }
     requires in_bounds { 390 ≤ length body.old }
-    requires shows { Shows b got }
-    ensures { Says (seen_part (sight_of area.now (entries_of b) got)) body.old body.new b result }
+    requires shows { Shows b done }
+    ensures { Says (seen_part (sight_of area.now (entries_of b) done)) body.old body.new b result }
 {
-    let code = got.code;
-    if code != tapa::SUCCESSFUL {
-        return code_alone(b, body, code);
-    }
-    let n = put_record(body, area, store_entries::entry_at(b, got.at), got.other);
-    Done {
-        long: put_word(body, n, code),
-        next: b,
+    match done {
+        Ok(got) => {
+            let end = put_record(body, area, store_entries::entry_at(b, got.at), got.other);
+            Done {
+                long: put_word(body, end, tapa::SUCCESSFUL),
+                next: b,
+            }
+        }
+        Err(code) => code_alone(b, body, code),
     }
 }
 
@@ -179,9 +184,9 @@ fn on_add(b: Book, area: &mut [u8], part: &[u8], body: &mut [u8]) -> Done
         return code_alone(b, body, tapa::UNSUPPORTED_OPERATION);
     }
     let f = tapa::word_at(part, 0);
-    let end = 3 + tapa::byte_at(part, 2) as usize;
-    let added = record_commands::add(b, area, f, &part[3..end], &part[end + 2..]);
-    code_behind(added.next, body, added.code, added.pointer)
+    let end = 3 + usize::from(tapa::byte_at(part, 2));
+    let done = record_commands::add(b, area, f, &part[3..end], &part[end + 2..]);
+    added(b, body, done)
 }
 
 fn on_get(b: Book, area: &[u8], part: &[u8], body: &mut [u8]) -> Done
@@ -196,13 +201,9 @@ fn on_get(b: Book, area: &[u8], part: &[u8], body: &mut [u8]) -> Done
     if 3 < orientation {
         return code_alone(b, body, tapa::UNSUPPORTED_OPERATION);
     }
-    let got = sights::get(
-        b,
-        tapa::word_at(part, 0),
-        tapa::word_at(part, 2),
-        orientation,
-    );
-    shown(b, area, body, got)
+    let f = tapa::word_at(part, 0);
+    let p = tapa::word_at(part, 2);
+    shown(b, area, body, sights::get(b, f, p, orientation))
 }
 
 fn on_update(b: Book, area: &mut [u8], part: &[u8], body: &mut [u8]) -> Done
@@ -215,9 +216,9 @@ fn on_update(b: Book, area: &mut [u8], part: &[u8], body: &mut [u8]) -> Done
     }
     let f = tapa::word_at(part, 0);
     let p = tapa::word_at(part, 2);
-    let end = 5 + tapa::byte_at(part, 4) as usize;
-    let added = record_commands::update(b, area, f, p, &part[5..end], &part[end + 2..]);
-    code_behind(added.next, body, added.code, added.pointer)
+    let end = 5 + usize::from(tapa::byte_at(part, 4));
+    let done = record_commands::update(b, area, f, p, &part[5..end], &part[end + 2..]);
+    added(b, body, done)
 }
 
 fn on_find(b: Book, area: &[u8], part: &[u8], body: &mut [u8]) -> Done
@@ -228,8 +229,8 @@ fn on_find(b: Book, area: &[u8], part: &[u8], body: &mut [u8]) -> Done
     if !store_asked::has_key(part) {
         return code_alone(b, body, tapa::UNSUPPORTED_OPERATION);
     }
-    let got = sights::find(b, area, tapa::word_at(part, 0), &part[3..]);
-    shown(b, area, body, got)
+    let done = sights::find(b, area, tapa::word_at(part, 0), &part[3..]);
+    shown(b, area, body, done)
 }
 
 fn on_delete(b: Book, area: &mut [u8], part: &[u8], body: &mut [u8]) -> Done
@@ -240,8 +241,8 @@ fn on_delete(b: Book, area: &mut [u8], part: &[u8], body: &mut [u8]) -> Done
     if part.len() != 4 {
         return code_alone(b, body, tapa::UNSUPPORTED_OPERATION);
     }
-    let gone = record_commands::delete(b, area, tapa::word_at(part, 0), tapa::word_at(part, 2));
-    code_alone(gone.next, body, gone.code)
+    let done = record_commands::delete(b, area, tapa::word_at(part, 0), tapa::word_at(part, 2));
+    gone(b, body, done)
 }
 
 fn on_find_delete(b: Book, area: &mut [u8], part: &[u8], body: &mut [u8]) -> Done
@@ -252,8 +253,8 @@ fn on_find_delete(b: Book, area: &mut [u8], part: &[u8], body: &mut [u8]) -> Don
     if !store_asked::has_key(part) {
         return code_alone(b, body, tapa::UNSUPPORTED_OPERATION);
     }
-    let gone = record_commands::find_delete(b, area, tapa::word_at(part, 0), &part[3..]);
-    code_alone(gone.next, body, gone.code)
+    let done = record_commands::find_delete(b, area, tapa::word_at(part, 0), &part[3..]);
+    gone(b, body, done)
 }
 
 fn on_clear(b: Book, area: &mut [u8], part: &[u8], body: &mut [u8]) -> Done

@@ -6,17 +6,18 @@ use Rattle.book.specs.Book.{entries_of, key_at}
 use Rattle.lists.proofs.ByPlace.{other-behind, other-first, other_none}
 use Rattle.lists.proofs.Tests.{positive}
 use Rattle.lists.specs.ByPlace.{is_at}
+use Rattle.record_commands.proofs.Steps.{some-at}
 use Rattle.record_commands.proofs.has_twin.Goals as goal
 
-pub returns-then-i-at : goal.returns-then-i-at
-returns-then-i-at c =
+pub returns-in-Some : goal.returns-in-Some
+returns-in-Some c =
     let a = c.args in
     let q = key_at a.area.now a.f a.key.now in
-    c.is_found.ensures ∙ ap is_at c.with_key-then-i-at.ensures
+    c.is_some.ensures ∙ some-at _ ∙ ap is_at c.with_key-in-Some.ensures
     ∙ sym (rw (lt-ltb 0 _ (positive a.keymax c.if-keymax-eq0.false)) (other-behind q a.«at» (entries_of a.b) (sym c.in-Some.ensures ∙ ap Some c.if-i-at.true)))
 
-pub returns-else-i-at : goal.returns-else-i-at
-returns-else-i-at c =
+pub returns-in-Some-2 : goal.returns-in-Some-2
+returns-in-Some-2 c =
     let a = c.args in
     let q = key_at a.area.now a.f a.key.now in
     sym (rw (lt-ltb 0 _ (positive a.keymax c.if-keymax-eq0.false)) (other-first q _ a.«at» (entries_of a.b) (sym c.in-Some.ensures) c.if-i-at.false))

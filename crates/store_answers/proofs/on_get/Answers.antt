@@ -19,12 +19,12 @@ returns-then-orientation-gt3 c =
 pub shown-requires-clause-shows : goal.shown-requires-clause-shows
 shown-requires-clause-shows c =
     let a = c.args in
-    let e = c.get-got.ensures ∙ (λ i. get_of a.b (c.word_at.ensures i) (c.word_at-2.ensures i) (get_or a.part.now 4 0)) in
+    let e = c.get.ensures ∙ (λ i. get_of a.b (c.word_at-f.ensures i) (c.word_at-p.ensures i) (get_or a.part.now 4 0)) in
     subst (Shows a.b) (sym e) (get-inside a.b c.requires.lawful.shape (file_in a.part.now) (word_at a.part.now 2) (get_or a.part.now 4 0))
 
 pub returns : goal.returns
 returns c =
     let a = c.args in
-    let e = c.get-got.ensures ∙ (λ i. get_of a.b (c.word_at.ensures i) (c.word_at-2.ensures i) (get_or a.part.now 4 0)) in
-    seen (get_shape a.part.now) c.get-got.result (get_of a.b (file_in a.part.now) (word_at a.part.now 2) (get_or a.part.now 4 0)) a.b a.area.now _ _ _ c.requires.lawful
+    let e = c.get.ensures ∙ (λ i. get_of a.b (c.word_at-f.ensures i) (c.word_at-p.ensures i) (get_or a.part.now 4 0)) in
+    seen (get_shape a.part.now) c.get.result (get_of a.b (file_in a.part.now) (word_at a.part.now 2) (get_or a.part.now 4 0)) a.b a.area.now _ _ _ c.requires.lawful
     (get-fits a.part.now c.if-part-ne5.false (omega arith)) e c.shown.ensures
