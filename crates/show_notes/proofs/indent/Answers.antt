@@ -1,27 +1,20 @@
 -- No word is set in; one byte more is; none is left, and the last line is closed.
-use Rattle.std.proofs.Common.{◌≡◌, refl, cond, [], arith}
-use Rattle.text.specs.Text.{ascii, pen, puts}
+use Rattle.std.proofs.Common.{arith}
+use Rattle.text.proofs.Laws.{left_all}
 use Rattle.blocks.specs.Words.{indented}
-use Rattle.blocks.proofs.Indenting.{padded, unpadded, turn, closed}
+use Rattle.blocks.proofs.Indenting.{turn, closed}
 use Rattle.show_notes.proofs.indent.Goals as goal
-use Rattle.show_notes.proofs.indent.Goals.{then-fresh, else-fresh}
 
-pub loop-i-init : goal.loop-i-init
+pub loop-byte-init : goal.loop-byte-init
 unfolding indented
-loop-i-init c = (omega arith, refl)
+loop-byte-init c = left_all _ _
 
-pub loop-i-preserved : goal.loop-i-preserved
-loop-i-preserved c =
-    let l = c.loop-i in
-    let s = c.args.words.now in
-    let j = c.if-fresh in
-    let q : pen j.page j.next ≡ puts (pen l.page l.next) (cond l.fresh (ascii "    ") []) = elim j.branch [
-      | then-fresh w ↦ padded _ _ _ _ _ _ w.if-fresh.true w.page-is w.next-is w.put_all-next.ensures
-      | else-fresh w ↦ unpadded _ _ _ _ _ w.if-fresh.false w.page-is w.next-is
-    ] in
-    (omega arith, turn l.fresh (pen l.page l.next) (pen j.page j.next) _ _ s l.i l.invariant.1 q c.put-next.ensures (omega arith))
+pub loop-byte-preserved : goal.loop-byte-preserved
+loop-byte-preserved c =
+    let l = c.loop-byte in
+    turn l.fresh c.args.words.now l.byte-index l.invariant (omega arith) c.put_set_in.ensures
 
-pub returns-then-fresh-2 : goal.returns-then-fresh-2
-returns-then-fresh-2 c =
-    let l = c.loop-i in
-    closed _ _ _ c.args.words.now l.i l.invariant.1 (omega arith) c.if-fresh-2.true
+pub returns-else-not-fresh : goal.returns-else-not-fresh
+returns-else-not-fresh c =
+    let l = c.loop-byte in
+    closed l.fresh c.args.words.now l.byte-index l.invariant (omega arith) c.if-not-fresh.false
