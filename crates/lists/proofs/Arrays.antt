@@ -10,7 +10,7 @@ use native.Mathlib.Omega.{arith}
 use lib.Dec.{eqb, ltb}
 use lib.ListN.{length, replicate, get_or, set, length-set, length-replicate}
 use lib.Seq.{get_or-set_same, get_or-set_other, set-get_or, ext_get_or}
-use borrow.Author.Tests.{eq-eqb, ne_eqb, eqb-true, eqb-false, ltb-true, ltb-false}
+use borrow.Author.Tests.{eqb-true, eqb-false, ltb-true, ltb-false}
 use Rattle.lists.specs.Lists.{count, some_of, keep, first, find, without_at, changed_at}
 use Rattle.lists.specs.Arrays.{held, Exact, Holding, Becoming}
 use Rattle.lists.proofs.Tests.{split, differ}
@@ -212,63 +212,16 @@ module _ {A : Type 0} (size : ℕ) (pack : A → ℕ) (unpack : ℕ → A) where
         law = h;
       }
 
-    -- ---- one less: the cells at .. i - 1 have moved down
+    -- ---- one less, past the count (in the list: proofs/Moved.antt)
 
     pub removed-past : (at : ℕ) → n ≤ at → Now l n (without_at at (held unpack l n))
     removed-past at k = record { holds = sym (end-past at (held unpack l n) (omega (arith, len unpack l n))); law = h }
-
-  pub record Shifted (l : List ℕ) (at : ℕ) (m : List ℕ) (i : ℕ) : Type 0 where
-    pub long : length m ≡ size
-    pub holds : held unpack m i ≡ without_at at (held unpack l (suc i))
-    pub above : (j : ℕ) → i < j → get_or m j 0 ≡ get_or l j 0
-    pub exact : (j : ℕ) → Exact pack unpack (get_or m j 0)
-
-  pub shift-starts : (l : List ℕ) (n at : ℕ) → Law l n → Shifted l at l at
-  shift-starts l n at h = record {
-    long = h.long;
-    holds = rw (len unpack l at, eq-eqb at at refl);
-    above = λ j k. refl;
-    exact = h.exact;
-  }
-
-  shift_one : (l : List ℕ) (at : ℕ) (m : List ℕ) (i v : ℕ) → at ≤ i → i < size → v ≡ get_or m (suc i) 0 → Shifted l at m i → Shifted l at (set m i v) (suc i)
-  shift_one l at m i v h k q s =
-      let same : get_or (set m i v) i 0 ≡ get_or l (suc i) 0 =
-      get_or-set_same m i v 0 (omega (arith, s.long)) ∙ q ∙ s.above (suc i) (omega arith) in
-      let old : held unpack (set m i v) i ≡ without_at at (held unpack l (suc i)) = held-set unpack m i v i (omega arith) ∙ s.holds in
-      let not-here : eqb at (suc (length (held unpack l i))) ≡ false =
-      ne_eqb at (suc (length (held unpack l i))) (λ e. omega (arith, len unpack l i)) in
-      record {
-        long = simp length-set s.long;
-        holds = rw (same, old, not-here);
-        above = λ j g. get_or-set_other m i j v 0 (λ e. omega arith) ∙ s.above j (omega arith);
-        exact = set_all (Exact pack unpack) m i v (rw q (s.exact (suc i))) s.exact;
-      }
-
-  pub shift-goes : (l : List ℕ) (at : ℕ) (m : List ℕ) (i : ℕ) → at ≤ i → i < size → Shifted l at m i → Shifted l at (set m i (get_or m (i + 1) 0)) (i + 1)
-  shift-goes l at m i h k s = rw (add-one i) (shift_one l at m i (get_or m (suc i) 0) h k refl s)
 
   -- a cell that is cleared is 0, and so are those past it that were
   cleared : (m : List ℕ) (i j : ℕ) → i < length m → ((j ≡ i → ⊥) → get_or m j 0 ≡ 0) → get_or (set m i 0) j 0 ≡ 0
   cleared m i j k h =
       split (eqb j i) (λ q. rw (eqb-true j i q) (get_or-set_same m i 0 0 k))
       (λ q. get_or-set_other m i j 0 0 (eqb-false j i q) ∙ h (eqb-false j i q))
-
-  pub shift-ends : (l : List ℕ) (n at : ℕ) (m : List ℕ) (i : ℕ) → Exact pack unpack 0 → Law l n → i + 1 ≡ n → Shifted l at m i
-      → Now (set m i 0) i (without_at at (held unpack l n))
-  shift-ends l n at m i z h e s =
-      let f : suc i ≡ n = sym (add-one i) ∙ e in
-      record {
-        holds = held-set unpack m i 0 i (omega arith) ∙ s.holds ∙ ap (λ (k : ℕ). without_at at (held unpack l k)) f;
-        law = record {
-          few = omega (arith, h.few);
-          long = simp length-set s.long;
-          exact = set_all (Exact pack unpack) m i 0 z s.exact;
-          free =
-              λ j g. cleared m i j (omega (arith, s.long, h.few))
-              (λ k. s.above j (omega (arith, k)) ∙ h.free j (omega (arith, k)));
-        };
-      }
 
   -- ---- those that stay: of the first i elements they are the first k, and what they leave is 0
 

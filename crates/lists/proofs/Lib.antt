@@ -15,3 +15,4 @@ pub mod Parts
 pub mod ByPlace
 pub mod Least
 pub mod Same
+pub mod Moved

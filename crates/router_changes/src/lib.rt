@@ -45,13 +45,9 @@ pub fn remove(list: &mut [u64; 48], n: usize, at: usize) -> usize
     if n <= at {
         return n;
     }
-    let mut i = at;
-    while i + 1 < n {
-        list[i] = list[i + 1];
-        i += 1;
-    }
-    list[i] = 0;
-    i
+    list.copy_within(at + 1..n, at);
+    list[n - 1] = 0;
+    n - 1
 }
 
 // A handler's owings end; the places that stay keep their order. Each place is cleared as it is
@@ -61,15 +57,13 @@ pub fn drop_owed(list: &mut [u64; 48], n: usize, handler: u16) -> usize
     ensures { Becomes list.new result (keep (not_owed_by handler) (places_of list.old n)) }
 {
     let mut kept = 0;
-    let mut seen = 0;
-    while seen < n {
+    for seen in 0..n {
         let x = list[seen];
         list[seen] = 0;
         if !router_tests::owed_by(x, handler) {
             list[kept] = x;
             kept += 1;
         }
-        seen += 1;
     }
     kept
 }

@@ -10,12 +10,10 @@ loop-seen-preserved c =
     let q = not_owed_by c.args.handler in
     let told = sym c.owed_by.ensures in
     let l = c.loop-seen in
-    let f = l.invariant.1 in (
-      search rules,
-      elim c.if-not-owed_by.branch [
-        | then-not-owed_by w ↦
-            rw (w.list-is, w.kept-is) (filter-keeps 48 pack unpack refl q _ l.list l.kept l.seen (search rules) f (ap not (told ∙ w.if-not-owed_by.true)))
-        | else-not-owed_by w ↦
-            rw (w.list-is, w.kept-is) (filter-drops 48 pack unpack refl q _ l.list l.kept l.seen (search rules) f (ap not (told ∙ w.if-not-owed_by.false)))
-      ],
-    )
+    let f = l.invariant in
+    elim c.if-not-owed_by.branch [
+      | then-not-owed_by w ↦
+          rw (w.list-is, w.kept-is) (filter-keeps 48 pack unpack refl q _ l.list l.kept l.seen (search rules) f (ap not (told ∙ w.if-not-owed_by.true)))
+      | else-not-owed_by w ↦
+          rw (w.list-is, w.kept-is) (filter-drops 48 pack unpack refl q _ l.list l.kept l.seen (search rules) f (ap not (told ∙ w.if-not-owed_by.false)))
+    ]
