@@ -15,4 +15,5 @@ pub mod Parts
 pub mod ByPlace
 pub mod Least
 pub mod Same
+pub mod Walks
 pub mod Moved

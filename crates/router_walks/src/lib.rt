@@ -64,24 +64,15 @@ pub fn leaf_at(list: &[u64; 48], n: usize, asked: u16, thread: u8) -> Leaf
     leaf_by(holds, found)
 }
 
-// Where a handler stands to a thread's tree: one walk tells whether it is in it, and whether there is
-// one at all.
+// Where a handler stands to a thread's tree: whether it is in it, and else whether there is one at all.
 pub fn standing_of(list: &[u64; 48], n: usize, thread: u8, handler: u16) -> Standing
     requires { Lawful list.now n }
     ensures { result ≡ standing_of thread handler (places_of list.now n) }
 {
-    let mut waits = false;
-    let mut i = n;
-    while 0 < i {
-        i -= 1;
-        if router_tests::has_on(list[i], thread, handler) {
-            return Standing::Within;
-        }
-        if router_tests::open_on(list[i], thread) {
-            waits = true;
-        }
+    if stands_on(list, n, thread, handler) {
+        return Standing::Within;
     }
-    if waits {
+    if list[..n].iter().any(|x| router_tests::open_on(*x, thread)) {
         return Standing::Outside;
     }
     Standing::Empty
@@ -94,14 +85,7 @@ pub fn find_owed(list: &[u64; 48], n: usize, asked: u16, thread: u8) -> Option<u
     requires { Lawful list.now n }
     ensures { result ≡ find (owes_exactly asked thread) (places_of list.now n) }
 {
-    let mut i = n;
-    while 0 < i {
-        i -= 1;
-        if router_tests::owes_exactly(list[i], asked, thread) {
-            return Some(i);
-        }
-    }
-    None
+    list[..n].iter().rposition(|x| router_tests::owes_exactly(*x, asked, thread))
 }
 
 // Whether a handler stands in a wait of a thread as asker or asked.
@@ -109,14 +93,9 @@ pub fn stands_on(list: &[u64; 48], n: usize, thread: u8, handler: u16) -> bool
     requires { Lawful list.now n }
     ensures { result ≡ some_of (stands_on thread handler) (places_of list.now n) }
 {
-    let mut i = n;
-    while 0 < i {
-        i -= 1;
-        if router_tests::has_on(list[i], thread, handler) {
-            return true;
-        }
-    }
-    false
+    list[..n]
+        .iter()
+        .any(|x| router_tests::has_on(*x, thread, handler))
 }
 
 // Whether a handler stands in a wait of any thread as asker or asked.
@@ -124,14 +103,9 @@ pub fn stands_in(list: &[u64; 48], n: usize, handler: u16) -> bool
     requires { Lawful list.now n }
     ensures { result ≡ some_of (stands_in handler) (places_of list.now n) }
 {
-    let mut i = n;
-    while 0 < i {
-        i -= 1;
-        if router_tests::has_open(list[i], handler) {
-            return true;
-        }
-    }
-    false
+    list[..n]
+        .iter()
+        .any(|x| router_tests::has_open(*x, handler))
 }
 
 // Whether a handler is asked or owing: a single one on any thread, a multi one on this thread.
@@ -139,12 +113,7 @@ pub fn taken(list: &[u64; 48], n: usize, handler: u16, thread: u8) -> bool
     requires { Lawful list.now n }
     ensures { result ≡ some_of (on_slot handler thread) (places_of list.now n) }
 {
-    let mut i = n;
-    while 0 < i {
-        i -= 1;
-        if router_tests::on_slot(list[i], handler, thread) {
-            return true;
-        }
-    }
-    false
+    list[..n]
+        .iter()
+        .any(|x| router_tests::on_slot(*x, handler, thread))
 }
