@@ -3,9 +3,10 @@ use Prim.Native.Nat.{ℕ}
 use mathlib.Core.Path.{◌≡◌, refl}
 use mathlib.Core.Bool.{Bool, true, false}
 use mathlib.Core.List.{List, [], ◌∷◌}
+use Rattle.std.specs.Prelude.{Ok, Err}
 use Rattle.tapa.specs.Address.{handler_of}
 use Rattle.place.specs.declared.Place.{Place}
-use Rattle.places.specs.declared.Leaf.TheVariants.{At, Holds, Missing}
+use Rattle.places.specs.declared.NoLeaf.TheVariants.{Holds, Missing}
 use Rattle.places.specs.declared.Standing.TheVariants.{Within, Outside, Empty}
 use Rattle.places.specs.Places.{place_at, places_of, waits, owings, leaf_of, standing_of}
 
@@ -33,8 +34,8 @@ pub one-owing : owings three ≡ command 0x0100 0x0003 true ∷ []
 one-owing = refl
 
 -- '0301' holds no question and is a leaf; '0282' holds one, by its handler; '0202' and '0003' have no wait, nor has another thread
-pub leaves : (leaf_of 0x0301 3 three ≡ At 1) × (leaf_of 0x0282 3 three ≡ Holds) × (leaf_of 0x0202 3 three ≡ Missing)
-    × (leaf_of 0x0003 3 three ≡ Missing) × (leaf_of 0x0301 2 three ≡ Missing)
+pub leaves : (leaf_of 0x0301 3 three ≡ Ok 1) × (leaf_of 0x0282 3 three ≡ Err Holds) × (leaf_of 0x0202 3 three ≡ Err Missing)
+    × (leaf_of 0x0003 3 three ≡ Err Missing) × (leaf_of 0x0301 2 three ≡ Err Missing)
 unfolding leaf_of handler_of
 leaves = (refl, refl, refl, refl, refl)
 

@@ -1,12 +1,13 @@
 -- The passed commands that are not done with: what their list is. The words on one of them are passed on from room place.
-use Rattle.std.specs.Prelude.{ℕ, Bool, cond, List, ◌∷◌, ltb, get_or, length, Option, Some, None}
+use Rattle.std.specs.Prelude.{ℕ, Bool, cond, List, ◌∷◌, ltb, get_or, length, Option, Some, None, Ok, Err}
+use Rattle.std.specs.declared.result.Result.{Result}
 use Rattle.lists.specs.Lists.{some_of, find, keep}
 use Rattle.lists.specs.Arrays.{held, Holding, Becoming}
 use Rattle.tapa.specs.Address.{handler_of}
 use Rattle.place.specs.declared.Place.{Place}
 pub use Rattle.place.specs.Place.{pack, unpack, Packed, is_open, is_owed, on_thread, open_on, owed_on, asks_exactly, owes_exactly, asks, stands, stands_on, holds_on, stands_in, on_slot, owed_by, not_owed_by, owing}
-use Rattle.places.specs.declared.Leaf.{Leaf}
-use Rattle.places.specs.declared.Leaf.TheVariants.{At, Holds, Missing}
+use Rattle.places.specs.declared.NoLeaf.{NoLeaf}
+use Rattle.places.specs.declared.NoLeaf.TheVariants.{Holds, Missing}
 use Rattle.places.specs.declared.Standing.{Standing}
 use Rattle.places.specs.declared.Standing.TheVariants.{Within, Outside, Empty}
 
@@ -44,11 +45,11 @@ abbrev pub holding : List Place → (a t : ℕ) → Bool
 holding ps a t = some_of (holds_on t (handler_of a)) ps
 
 -- the number of the wait of the thread t that asks exactly a, a leaf where its handler holds no question there
-abbrev pub leaf_by : (holds : Bool) → Option ℕ → Leaf
-leaf_by b None = Missing
-leaf_by b (Some i) = cond b Holds (At i)
+abbrev pub leaf_by : (holds : Bool) → Option ℕ → Result ℕ NoLeaf
+leaf_by b None = Err Missing
+leaf_by b (Some i) = cond b (Err Holds) (Ok i)
 
-unfoldable pub leaf_of : (a t : ℕ) → List Place → Leaf
+unfoldable pub leaf_of : (a t : ℕ) → List Place → Result ℕ NoLeaf
 leaf_of a t ps = leaf_by (holding ps a t) (find (asks_exactly a t) ps)
 
 -- where the handler h stands to the thread's tree

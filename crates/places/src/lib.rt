@@ -12,11 +12,10 @@
 // change keeps the law, and the places with the law leave one array possible: proofs/Once.antt.
 #![tactic(auto)]
 
-// What a thread's tree has of an exact address: the number of the wait that asks it, a leaf; that
-// the handler of that wait holds a question of its own on the thread; or no such wait.
+// Why a thread's tree has no leaf at an exact address: the handler of the wait that asks it holds a
+// question of its own on the thread, or no wait asks it.
 #[derive(Clone, Copy)]
-pub enum Leaf {
-    At(usize),
+pub enum NoLeaf {
     Holds,
     Missing,
 }

@@ -6,14 +6,13 @@
 // message keeps.
 #![tactic(auto)]
 
-ghost use Rattle.std.specs.Prelude.{◌≡◌, ◌≤◌, ◌<◌, length};
+ghost use Rattle.std.specs.Prelude.{◌≡◌, ◌≤◌, ◌<◌, length, Ok};
 ghost use Rattle.message.specs.Message.{code_of, part_of};
 ghost use Rattle.table.specs.Table.{Column};
 ghost use Rattle.places.specs.Places as places;
 ghost use Rattle.rules.specs.Judge.{turned, judge_command, judge_kind};
 ghost use Rattle.rules.specs.Apply.{place};
 ghost use Rattle.ruling.specs.Ruling.{held_view, view_in, ruled};
-ghost use Rattle.ruling.specs.declared.Ruling.TheVariants.{On};
 ghost use Rattle.routing.specs.Law.{Lawful};
 ghost use Rattle.routing.specs.Steps.{Wrote, Stepped, OnMessage};
 
@@ -21,7 +20,6 @@ use message::Head;
 use place::Place;
 use routing::Step;
 use rules::Outcome;
-use ruling::Ruling;
 use tapa::Refusal;
 
 // ---- Any other type
@@ -38,7 +36,7 @@ fn turned_back(head: Head, code: u16) -> Outcome
 }
 
 fn passed(head: Head) -> Outcome
-    ensures { result ≡ ruled head On }
+    ensures { result ≡ ruled head (Ok tt) }
 {
     Outcome::Passed {
         asker: head.source,
@@ -77,18 +75,14 @@ fn on_command(
     requires in_bounds { 10 ≤ length reply.old }
     ensures { Wrote (judge_command (held_view cells.now count list.old len) head) list len reply result }
 {
-    match ruling::rule_for(cells, count, list, len, head) {
-        Ruling::Back(code) => {
-            message_writer::respond(reply, head.source, head.destination, head.thread, code);
-            let outcome = turned_back(head, code);
-            Step { outcome, len }
-        }
-        Ruling::On => {
-            let more = router_changes::push(list, len, wait_of(head));
-            let outcome = passed(head);
-            Step { outcome, len: more }
-        }
+    if let Err(code) = ruling::rule_for(cells, count, list, len, head) {
+        message_writer::respond(reply, head.source, head.destination, head.thread, code);
+        let outcome = turned_back(head, code);
+        return Step { outcome, len };
     }
+    let more = router_changes::push(list, len, wait_of(head));
+    let outcome = passed(head);
+    Step { outcome, len: more }
 }
 
 // ---- a message
@@ -136,16 +130,15 @@ pub fn on_message(
     if reply.len() < 10 {
         return routing::refuse(Refusal::BufferTooSmall, len);
     }
-    match message_reader::read(message) {
-        Err(refusal) => routing::refuse(refusal, len),
-        Ok(head) => {
-            if !router_rows::is_listed(cells, count, tapa::handler(head.source)) {
-                return routing::refuse(Refusal::NotInTable, len);
-            }
-            if 7 < head.thread {
-                return routing::refuse(Refusal::ThreadAbove7, len);
-            }
-            on_type(cells, count, list, len, head, message, reply)
-        }
+    let head = match message_reader::read(message) {
+        Ok(head) => head,
+        Err(refusal) => return routing::refuse(refusal, len),
+    };
+    if !router_rows::is_listed(cells, count, tapa::handler(head.source)) {
+        return routing::refuse(Refusal::NotInTable, len);
     }
+    if 7 < head.thread {
+        return routing::refuse(Refusal::ThreadAbove7, len);
+    }
+    on_type(cells, count, list, len, head, message, reply)
 }

@@ -9,7 +9,7 @@ ghost use Rattle.table.specs.Table.{Column};
 ghost use Rattle.places.specs.Places as places;
 ghost use Rattle.routing.specs.Steps.{OnGiveUp, OnReplaced};
 
-use places::Leaf;
+use places::NoLeaf;
 use routing::Step;
 use rules::Outcome;
 use tapa::Refusal;
@@ -33,23 +33,22 @@ pub fn on_give_up(
     if 7 < thread {
         return routing::refuse(Refusal::ThreadAbove7, len);
     }
-    match router_walks::leaf_at(list, len, asked, thread) {
-        Leaf::Missing => routing::refuse(Refusal::NothingToGiveUp, len),
-        Leaf::Holds => routing::refuse(Refusal::HoldsAQuestion, len),
-        Leaf::At(at) => {
-            let wait = router_walks::place_at(list, len, at);
-            let asker = wait.asker;
-            message_writer::respond(reply, asker, asked, thread, tapa::HANDLER_ERROR);
-            router_changes::owe(list, len, at);
-            Step {
-                outcome: Outcome::Given {
-                    asker,
-                    asked,
-                    thread,
-                },
-                len,
-            }
-        }
+    let at = match router_walks::leaf_at(list, len, asked, thread) {
+        Ok(at) => at,
+        Err(NoLeaf::Missing) => return routing::refuse(Refusal::NothingToGiveUp, len),
+        Err(NoLeaf::Holds) => return routing::refuse(Refusal::HoldsAQuestion, len),
+    };
+    let wait = router_walks::place_at(list, len, at);
+    let asker = wait.asker;
+    message_writer::respond(reply, asker, asked, thread, tapa::HANDLER_ERROR);
+    router_changes::owe(list, len, at);
+    Step {
+        outcome: Outcome::Given {
+            asker,
+            asked,
+            thread,
+        },
+        len,
     }
 }
 

@@ -15,7 +15,7 @@ ghost use Rattle.routing.specs.Steps.{Placed, OnResponse, OpenOrClosed};
 
 use message::Head;
 use place::Place;
-use places::Leaf;
+use places::NoLeaf;
 use routing::Step;
 use rules::Outcome;
 use tapa::Refusal;
@@ -42,18 +42,16 @@ fn on_late(list: &mut [u64; 48], len: usize, head: Head) -> Step
     requires { places.Lawful list.old len }
     ensures { Placed (late (places_in list len) head) list len result }
 {
-    match router_walks::find_owed(list, len, head.source, head.thread) {
-        Some(i) => {
-            let less = router_changes::remove(list, len, i);
-            Step {
-                outcome: Outcome::Swallowed {
-                    asked: head.source,
-                    thread: head.thread,
-                },
-                len: less,
-            }
-        }
-        None => routing::refuse(Refusal::StrayResponse, len),
+    let Some(at) = router_walks::find_owed(list, len, head.source, head.thread) else {
+        return routing::refuse(Refusal::StrayResponse, len);
+    };
+    let less = router_changes::remove(list, len, at);
+    Step {
+        outcome: Outcome::Swallowed {
+            asked: head.source,
+            thread: head.thread,
+        },
+        len: less,
     }
 }
 
@@ -85,18 +83,17 @@ pub fn on_response(
     let Some(code) = coded else {
         return routing::refuse(Refusal::NoResponseCode, len);
     };
-    match router_walks::leaf_at(list, len, head.source, head.thread) {
-        Leaf::Missing => on_late(list, len, head),
-        Leaf::Holds => routing::refuse(Refusal::StrayResponse, len),
-        Leaf::At(at) => {
-            let wait = router_walks::place_at(list, len, at);
-            if wait.asker != head.destination {
-                return routing::refuse(Refusal::WrongAsker, len);
-            }
-            open_or_close(cells, count, wait, code);
-            let less = router_changes::remove(list, len, at);
-            let outcome = answered(head, code);
-            Step { outcome, len: less }
-        }
+    let at = match router_walks::leaf_at(list, len, head.source, head.thread) {
+        Ok(at) => at,
+        Err(NoLeaf::Missing) => return on_late(list, len, head),
+        Err(NoLeaf::Holds) => return routing::refuse(Refusal::StrayResponse, len),
+    };
+    let wait = router_walks::place_at(list, len, at);
+    if wait.asker != head.destination {
+        return routing::refuse(Refusal::WrongAsker, len);
     }
+    open_or_close(cells, count, wait, code);
+    let less = router_changes::remove(list, len, at);
+    let outcome = answered(head, code);
+    Step { outcome, len: less }
 }

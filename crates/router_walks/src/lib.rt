@@ -7,10 +7,10 @@
 
 ghost use Rattle.std.specs.Prelude.{◌≡◌};
 ghost use Rattle.lists.specs.Lists.{find, some_of};
-ghost use Rattle.places.specs.Places.{places_of, place_at, Lawful, owes_exactly, stands_on, stands_in, on_slot, leaf_by, leaf_of, standing_of};
+ghost use Rattle.places.specs.Places.{places_of, place_at, Lawful, owes_exactly, stands_on, stands_in, on_slot, leaf_of, standing_of};
 
 use place::Place;
-use places::{Leaf, Standing};
+use places::{NoLeaf, Standing};
 
 // ---- a place by its number
 
@@ -27,41 +27,27 @@ pub fn place_at(list: &[u64; 48], n: usize, at: usize) -> Place
 
 // ---- a thread's tree
 
-// A wait that was found is a leaf, unless its handler holds a question.
-fn leaf_by(holds: bool, found: Option<usize>) -> Leaf
-    ensures { result ≡ leaf_by holds found }
-{
-    match found {
-        None => Leaf::Missing,
-        Some(i) => {
-            if holds {
-                return Leaf::Holds;
-            }
-            Leaf::At(i)
-        }
-    }
-}
-
-// The wait of a thread that asks exactly this address, and whether its handler holds a question on
-// the thread: one walk tells both.
-pub fn leaf_at(list: &[u64; 48], n: usize, asked: u16, thread: u8) -> Leaf
+// The wait of a thread that asks exactly this address: a leaf, unless its handler holds a question on
+// the thread.
+pub fn leaf_at(list: &[u64; 48], n: usize, asked: u16, thread: u8) -> Result<usize, NoLeaf>
     requires { Lawful list.now n }
     ensures { result ≡ leaf_of asked thread (places_of list.now n) }
 {
+    let places = &list[..n];
     let handler = tapa::handler(asked);
-    let mut found = None;
-    let mut holds = false;
-    let mut i = 0;
-    while i < n {
-        if router_tests::asks_exactly(list[i], asked, thread) {
-            found = Some(i);
-        }
-        if router_tests::holds_on(list[i], thread, handler) {
-            holds = true;
-        }
-        i += 1;
+    let Some(at) = places
+        .iter()
+        .rposition(|x| router_tests::asks_exactly(*x, asked, thread))
+    else {
+        return Err(NoLeaf::Missing);
+    };
+    if places
+        .iter()
+        .any(|x| router_tests::holds_on(*x, thread, handler))
+    {
+        return Err(NoLeaf::Holds);
     }
-    leaf_by(holds, found)
+    Ok(at)
 }
 
 // Where a handler stands to a thread's tree: whether it is in it, and else whether there is one at all.
@@ -85,7 +71,9 @@ pub fn find_owed(list: &[u64; 48], n: usize, asked: u16, thread: u8) -> Option<u
     requires { Lawful list.now n }
     ensures { result ≡ find (owes_exactly asked thread) (places_of list.now n) }
 {
-    list[..n].iter().rposition(|x| router_tests::owes_exactly(*x, asked, thread))
+    list[..n]
+        .iter()
+        .rposition(|x| router_tests::owes_exactly(*x, asked, thread))
 }
 
 // Whether a handler stands in a wait of a thread as asker or asked.

@@ -1,7 +1,8 @@
 -- What the functions that decide answer. The rules themselves are definitions of `rules`.
-use Rattle.std.specs.Prelude.{ℕ, List}
+use Rattle.std.specs.Prelude.{ℕ, List, Ok, Err}
 use Rattle.std.specs.Borrow.{Bor, MutBor}
 use denote.Triple.Both.{Both}
+use Rattle.std.specs.declared.result.Result.{Result}
 use Rattle.message.specs.declared.Head.{Head}
 use Rattle.table.specs.Table.{rows_of}
 use Rattle.place.specs.declared.Place.{Place}
@@ -10,8 +11,6 @@ use Rattle.rules.specs.View.{View}
 use Rattle.rules.specs.declared.Outcome.{Outcome}
 use Rattle.rules.specs.declared.Outcome.TheVariants.{Passed}
 use Rattle.rules.specs.Judge.{turned}
-use Rattle.ruling.specs.declared.Ruling.{Ruling}
-use Rattle.ruling.specs.declared.Ruling.TheVariants.{Back, On}
 
 -- the view that the arrays of a state hold: the cells of n rows, and the list of k places
 abbrev pub held_view : (cells : List ℕ) → (n : ℕ) → (list : List ℕ) → (k : ℕ) → View
@@ -39,7 +38,7 @@ view_in cells n list k = held_view cells.entry.now n list.entry.now k
 
 -- ---- what is decided
 
--- what the rules a to e say of a command, as an outcome
-abbrev pub ruled : Head → Ruling → Outcome
-ruled h (Back code) = turned h code
-ruled h On = Passed h.source h.destination h.kind h.thread
+-- what the rules a to e say of a command, back with a code or on, as an outcome
+abbrev pub ruled : Head → Result (Unit {0}) ℕ → Outcome
+ruled h (Err code) = turned h code
+ruled h (Ok _) = Passed h.source h.destination h.kind h.thread

@@ -15,22 +15,12 @@ use places::Standing;
 use rules::Outcome;
 use tapa::Refusal;
 
-// What the rules a to e say of a command: back with a code, or on.
-#[derive(Clone, Copy)]
-pub enum Ruling {
-    Back(u16),
-    On,
-}
-
 // ---- Type 'C0' to handler '0700'
 
 pub fn is_add_event(head: Head) -> bool
     ensures { result ≡ is_add_event head }
 {
-    if head.kind != tapa::ADD_EVENT {
-        return false;
-    }
-    tapa::handler(head.destination) == tapa::EVENT_HANDLER
+    head.kind == tapa::ADD_EVENT && tapa::handler(head.destination) == tapa::EVENT_HANDLER
 }
 
 pub fn event(cells: &[u32; 16], count: usize) -> Outcome
@@ -50,10 +40,7 @@ fn is_closed(cells: &[u32; 16], count: usize, handler: u16, kind: u8) -> bool
     requires { count ≤ 16 }
     ensures { result ≡ closed_to (rows_of cells.now count) handler kind }
 {
-    if router_rows::is_open(cells, count, handler) {
-        return false;
-    }
-    kind != tapa::OPEN_HANDLER
+    !router_rows::is_open(cells, count, handler) && kind != tapa::OPEN_HANDLER
 }
 
 // Rule d: whether this source may ask on the thread.
@@ -69,40 +56,43 @@ fn may_ask(list: &[u64; 48], len: usize, thread: u8, source: u16) -> bool
 }
 
 // Rule e: whether the handler is the asker, stands in the thread's tree, or has its slot taken.
+#[tactic(auto, unfolding(rules::specs::Judge::busy))]
 fn is_busy(list: &[u64; 48], len: usize, source: u16, handler: u16, thread: u8) -> bool
     requires { Lawful list.now len }
     ensures { result ≡ busy (places_of list.now len) source handler thread }
 {
-    if handler == tapa::handler(source) {
-        return true;
-    }
-    if router_walks::stands_on(list, len, thread, handler) {
-        return true;
-    }
-    router_walks::taken(list, len, handler, thread)
+    handler == tapa::handler(source)
+        || router_walks::stands_on(list, len, thread, handler)
+        || router_walks::taken(list, len, handler, thread)
 }
 
-// The first of the rules a to e that applies.
-pub fn rule_for(cells: &[u32; 16], count: usize, list: &[u64; 48], len: usize, head: Head) -> Ruling
+// The first of the rules a to e that applies: back with its code, or on.
+pub fn rule_for(
+    cells: &[u32; 16],
+    count: usize,
+    list: &[u64; 48],
+    len: usize,
+    head: Head,
+) -> Result<(), u16>
     requires lawful { Lawful list.now len }
     requires count_bound { count ≤ 16 }
     ensures { ruled head result ≡ judge_command (held_view cells.now count list.now len) head }
 {
     let handler = tapa::handler(head.destination);
     if !router_rows::is_listed(cells, count, handler) {
-        return Ruling::Back(tapa::INVALID_DESTINATION);
+        return Err(tapa::INVALID_DESTINATION);
     }
     if !known_types::is_known(tapa::category(head.destination), head.kind) {
-        return Ruling::Back(tapa::UNSUPPORTED_OPERATION);
+        return Err(tapa::UNSUPPORTED_OPERATION);
     }
     if is_closed(cells, count, handler, head.kind) {
-        return Ruling::Back(tapa::MUST_BE_OPENED);
+        return Err(tapa::MUST_BE_OPENED);
     }
     if !may_ask(list, len, head.thread, head.source) {
-        return Ruling::Back(tapa::HANDLER_ERROR);
+        return Err(tapa::HANDLER_ERROR);
     }
     if is_busy(list, len, head.source, handler, head.thread) {
-        return Ruling::Back(tapa::HANDLER_BUSY);
+        return Err(tapa::HANDLER_BUSY);
     }
-    Ruling::On
+    Ok(())
 }

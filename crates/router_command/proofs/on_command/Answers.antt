@@ -4,14 +4,14 @@ use Rattle.ruling.specs.Ruling.{ruled}
 use Rattle.routing.proofs.Commands.{turns, passes}
 use Rattle.router_command.proofs.on_command.Goals as goal
 
-pub returns-in-Back : goal.returns-in-Back
-returns-in-Back c =
+pub returns-in-Err : goal.returns-in-Err
+returns-in-Err c =
     let a = c.args in
     turns _ _ c.requires.lawful a.head _ _ _ _ _ c.turned_back-outcome.ensures
-    (ap (ruled a.head) (sym c.in-Back.is) ∙ c.rule_for.ensures) c.requires.in_bounds c.respond.ensures
+    (ap (ruled a.head) (sym c.in-Err.is) ∙ c.rule_for.ensures) c.requires.in_bounds c.respond.ensures
 
-pub returns-in-On : goal.returns-in-On
-returns-in-On c =
+pub returns : goal.returns
+returns c =
     let a = c.args in
-    let e = ap (ruled a.head) (sym c.in-On.is) ∙ c.rule_for.ensures in
+    let e = ap (ruled a.head) (sym c.in_default.is) ∙ c.rule_for.ensures in
     passes _ _ c.requires.lawful a.head _ _ _ _ _ _ c.requires.len_bound c.passed-outcome.ensures c.wait_of.ensures e c.push-more.ensures

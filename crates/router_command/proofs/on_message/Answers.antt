@@ -41,12 +41,12 @@ returns-in-Err-clause-on_message c =
     unstepped _ _ r.held _ _ r.column _ _ _ _ c.refuse-in-Err.ensures
     (message-unread _ _ _ c.if-reply-lt10.false _ c.read.ensures _ c.in-Err.is)
 
-pub returns-else-head-gt7-clause-on_message : goal.returns-else-head-gt7-clause-on_message
-returns-else-head-gt7-clause-on_message c =
+pub returns-clause-on_message : goal.returns-clause-on_message
+returns-clause-on_message c =
     step-as _ _ _ _ _ _ _ _ _
     (message-kind _ _ _ c.if-reply-lt10.false _ c.read.ensures _ c.in-Ok.is (told _ _ _ _ _ _ c.handler.ensures c.is_listed.ensures c.if-not-is_listed.false) c.if-head-gt7.false)
     c.on_type.ensures
 
-pub returns-else-head-gt7-clause-lawful : goal.returns-else-head-gt7-clause-lawful
-returns-else-head-gt7-clause-lawful c =
-    law-kept _ _ _ _ c.requires _ (message c.args.message.now) _ _ _ (returns-else-head-gt7-clause-on_message c).moving
+pub returns-clause-lawful : goal.returns-clause-lawful
+returns-clause-lawful c =
+    law-kept _ _ _ _ c.requires _ (message c.args.message.now) _ _ _ (returns-clause-on_message c).moving

@@ -5,12 +5,12 @@ use Rattle.routing.proofs.Steps.{unplaced}
 use Rattle.routing.proofs.Responses.{swallows, strays}
 use Rattle.router_response.proofs.on_late.Goals as goal
 
-pub returns-in-Some : goal.returns-in-Some
-returns-in-Some c =
+pub returns : goal.returns
+returns c =
     let a = c.args in
     swallows a.list.now a.len a.head _ _ _ (sym c.find_owed.ensures ∙ c.in-Some.is) c.remove-less.ensures
 
-pub returns-in-None : goal.returns-in-None
-returns-in-None c =
+pub returns-in_default : goal.returns-in_default
+returns-in_default c =
     let a = c.args in
-    unplaced _ _ c.requires _ StrayResponse _ c.refuse.ensures (strays a.list.now a.len a.head (sym c.find_owed.ensures ∙ c.in-None.is))
+    unplaced _ _ c.requires _ StrayResponse _ c.refuse.ensures (strays a.list.now a.len a.head (sym c.find_owed.ensures ∙ c.in_default.is))
