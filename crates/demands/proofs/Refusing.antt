@@ -237,7 +237,7 @@ refusing = record {
   get-next = λ thread before after w x k e. x.buffer ∙ not-asked (ltb (length before) 5) thread before k (sym x.answer ∙ e);
 }
   where
-    not-asked : (b : Bool) (thread : ℕ) (before : List ℕ) (k : Refusal) → cond b (Err BufferTooSmall) (Ok 5) ≡ Err k
+    not-asked : (b : Bool) (thread : ℕ) (before : List ℕ) (k : Refusal) → cond {A = Result ℕ Refusal} b (Err BufferTooSmall) (Ok 5) ≡ Err k
         → cond b before (onto (get_next_bytes thread) before) ≡ before
     not-asked true thread before k e = refl
     not-asked false thread before k e = differ (cc)

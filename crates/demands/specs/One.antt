@@ -114,7 +114,7 @@ pub record OneResult : Type 0 where
   pub handle : (q : Queue) (message before : List ℕ) → OneWith (λ h after. HandlingAt q message before after h)
   -- store: the answer and the next book, the area, the reply buffer
   pub slot-part : (area : Bor (List ℕ)) (s at n : ℕ) → OnePart (λ (p : Bor (List ℕ)). SlotPart area p s at n)
-  pub store-handle : (w : store.Result) (area area' before before' : List ℕ) (h k : Handled) → store.Handling w area before h → store.Handling w area' before' k
+  pub store-handle : (w : store.Answered) (area area' before before' : List ℕ) (h k : Handled) → store.Handling w area before h → store.Handling w area' before' k
       → (h ≡ k) × (area ≡ area') × (before ≡ before')
   -- cutter
   pub part-to-cut : (message : Bor (List ℕ)) → OnePart (PartToCut message)
