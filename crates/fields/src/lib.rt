@@ -65,7 +65,7 @@ pub fn read_at(s: &[u8], at: usize) -> Read
     if left < 3 {
         return Read::Cut(tag);
     }
-    let long = tapa::word_at(s, at + 1) as usize;
+    let long = usize::from(tapa::word_at(s, at + 1));
     if left - 3 < long {
         return Read::Cut(tag);
     }
@@ -101,21 +101,13 @@ pub fn row_at(s: &[u8], at: usize) -> NextRow
     ensures { result ≡ row_at s.now at }
 {
     match read_at(s, at) {
-        Read::End => NextRow::Over,
-        Read::Cut(tag) => {
-            if tag == 1 {
-                NextRow::Torn
-            } else {
-                NextRow::Over
-            }
-        }
-        Read::Field { tag, start, long } => {
-            if tag == 1 {
-                row_in(s, start, long)
-            } else {
-                NextRow::Over
-            }
-        }
+        Read::Cut(1) => NextRow::Torn,
+        Read::Field {
+            tag: 1,
+            start,
+            long,
+        } => row_in(s, start, long),
+        Read::End | Read::Cut(_) | Read::Field { .. } => NextRow::Over,
     }
 }
 
@@ -126,29 +118,19 @@ fn step_in(s: &[u8], tag: u8, start: usize, long: usize) -> NextStep
     ensures { result ≡ step_placed start (start + long) (step_of tag (take long (drop start s.now))) }
 {
     let next = start + long;
-    if tag == 2 {
-        return NextStep::Message { start, next };
+    match (tag, long) {
+        (2, _) => NextStep::Message { start, next },
+        (3, 3) => NextStep::GiveUp {
+            thread: s[start],
+            address: tapa::word_at(s, start + 1),
+            next,
+        },
+        (4, 2) => NextStep::Replaced {
+            address: tapa::word_at(s, start),
+            next,
+        },
+        _ => NextStep::Broken,
     }
-    if tag == 3 {
-        if long == 3 {
-            return NextStep::GiveUp {
-                thread: s[start],
-                address: tapa::word_at(s, start + 1),
-                next,
-            };
-        }
-        return NextStep::Broken;
-    }
-    if tag == 4 {
-        if long == 2 {
-            return NextStep::Replaced {
-                address: tapa::word_at(s, start),
-                next,
-            };
-        }
-        return NextStep::Broken;
-    }
-    NextStep::Broken
 }
 
 // The step at a place.

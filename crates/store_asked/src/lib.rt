@@ -22,26 +22,18 @@ const LEAST: usize = 398;
 fn is_elsewhere(head: Head) -> bool
     ensures { result ≡ elsewhere head }
 {
-    if tapa::category(head.destination) == tapa::DATA_STORE {
-        head.kind == tapa::RESPONSE
-    } else {
-        true
-    }
+    tapa::category(head.destination) != tapa::DATA_STORE || head.kind == tapa::RESPONSE
 }
 
 // The checks in their order; `room` is the length of the reply buffer.
 pub fn check(message: &[u8], room: usize) -> Result<Head, Refusal>
     ensures { result ≡ checked room message.now }
 {
-    match replies::open(message, room, LEAST) {
-        Err(refusal) => Err(refusal),
-        Ok(head) => {
-            if is_elsewhere(head) {
-                return Err(Refusal::NotThisPartsMessage);
-            }
-            Ok(head)
-        }
+    let head = replies::open(message, room, LEAST)?;
+    if is_elsewhere(head) {
+        return Err(Refusal::NotThisPartsMessage);
     }
+    Ok(head)
 }
 
 // ---- the readers of the data part
@@ -54,31 +46,24 @@ pub fn has_record(part: &[u8], at: usize) -> bool
     if size < at {
         return false;
     }
-    let key = tapa::byte_at(part, at) as usize;
-    let long = tapa::word_at(part, at + 1 + key) as usize;
-    if size == at + 3 + key + long {
-        return long <= 128;
-    }
-    false
+    let key = usize::from(tapa::byte_at(part, at));
+    let long = usize::from(tapa::word_at(part, at + 1 + key));
+    size == at + 3 + key + long && long <= 128
 }
 
 // Whether ID_FILE, LEN_SKEY and a key are all that stands there.
+#[tactic(auto, unfolding(files::specs::Asked::key_shape))]
 pub fn has_key(part: &[u8]) -> bool
     ensures { result ≡ key_shape part.now }
 {
-    part.len() == 3 + tapa::byte_at(part, 2) as usize
+    part.len() == 3 + usize::from(tapa::byte_at(part, 2))
 }
 
 // Whether there are identifiers, 1 to 16 of two bytes each.
+#[tactic(auto, unfolding(files::specs::Asked::ids_shape))]
 pub fn has_ids(part: &[u8]) -> bool
     ensures { result ≡ ids_shape part.now }
 {
     let long = part.len();
-    if long == 0 {
-        return false;
-    }
-    if 32 < long {
-        return false;
-    }
-    long % 2 == 0
+    0 < long && long <= 32 && long % 2 == 0
 }

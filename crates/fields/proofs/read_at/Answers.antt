@@ -1,5 +1,5 @@
 -- Each return is the first of the definition's checks that passes.
-use Rattle.std.proofs.Common.{◌+◌, length, arith}
+use Rattle.std.proofs.Common.{◌+◌, length, ◌∙◌, arith}
 use borrow.Author.Tests.{le-leb, lt-leb, le-ltb, lt-ltb}
 use Rattle.fields.specs.Places.{read_at}
 use Rattle.fields.proofs.read_at.Goals as goal
@@ -18,8 +18,8 @@ returns-then-left-long c =
     rw (
       lt-leb _ _ c.if-s-at.false,
       le-ltb (length c.args.s.now) (c.args.at + 3) (omega arith),
-      ← c.word_at-long.ensures,
-      lt-ltb (length c.args.s.now) (c.args.at + 3 + c.word_at-long.result) (omega arith),
+      ← (c.from-long.ensures ∙ c.word_at.ensures),
+      lt-ltb (length c.args.s.now) (c.args.at + 3 + c.from-long.result) (omega arith),
     )
 
 pub returns : goal.returns
@@ -28,6 +28,6 @@ returns c =
     rw (
       lt-leb _ _ c.if-s-at.false,
       le-ltb (length c.args.s.now) (c.args.at + 3) (omega arith),
-      ← c.word_at-long.ensures,
-      le-ltb (length c.args.s.now) (c.args.at + 3 + c.word_at-long.result) (omega arith),
+      ← (c.from-long.ensures ∙ c.word_at.ensures),
+      le-ltb (length c.args.s.now) (c.args.at + 3 + c.from-long.result) (omega arith),
     )

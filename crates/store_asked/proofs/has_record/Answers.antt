@@ -23,7 +23,7 @@ pub returns-then-size-at : goal.returns-then-size-at
 returns-then-size-at c = differs c.args.part.now c.args.at _ _ refl refl (λ e. omega (arith, c.if-size-at.true))
 
 pub returns-then-size-at-2 : goal.returns-then-size-at-2
-returns-then-size-at-2 c = fits c.args.part.now c.args.at _ _ c.byte_at-key.ensures c.word_at-long.ensures c.if-size-at-2.true
+returns-then-size-at-2 c = fits c.args.part.now c.args.at _ _ (c.from-key.ensures ∙ c.byte_at.ensures) (c.from-long.ensures ∙ c.word_at.ensures) c.if-size-at-2.true
 
-pub returns : goal.returns
-returns c = differs c.args.part.now c.args.at _ _ c.byte_at-key.ensures c.word_at-long.ensures c.if-size-at-2.false
+pub returns-else-size-at-2 : goal.returns-else-size-at-2
+returns-else-size-at-2 c = ne_eqb _ _ c.if-size-at-2.false ∙ differs c.args.part.now c.args.at _ _ (c.from-key.ensures ∙ c.byte_at.ensures) (c.from-long.ensures ∙ c.word_at.ensures) c.if-size-at-2.false
