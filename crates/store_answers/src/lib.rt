@@ -24,6 +24,9 @@ use record_commands::Added;
 use sights::Got;
 use store::{Done, Handled};
 
+// The longest response's data: LEN_SKEY, 255 of key, LEN_REC, 128 of data, a pointer and a code.
+type Body = [u8; 390];
+
 // ---- the writers of the response's data
 
 // Bytes at a place; the answer is the place behind them.
@@ -40,8 +43,7 @@ fn put_word(body: &mut [u8], at: usize, x: u16) -> usize
     requires { at + 2 ≤ length body.old }
     ensures { (result ≡ at + 2) × (body.new ≡ over body.old at (two_bytes x)) }
 {
-    let bytes = [(x / 256) as u8, (x % 256) as u8];
-    put(body, at, &bytes)
+    put(body, at, &x.to_be_bytes())
 }
 
 // The first n identifiers.
@@ -49,31 +51,28 @@ fn put_ids(body: &mut [u8], ids: &[u16; 16], n: usize) -> usize
     requires { (n ≤ 16) × (length ids.now ≡ 16) × (32 ≤ length body.old) }
     ensures { (result ≡ n * 2) × (body.new ≡ over body.old 0 (words_of (take n ids.now))) }
 {
-    let mut i = 0;
-    while i < n {
+    for i in 0..n {
         put_word(body, i * 2, ids[i]);
-        i += 1;
     }
     n * 2
 }
 
 // A record and a pointer, as Get and Find show them, before the code.
-fn put_record(body: &mut [u8], area: &[u8], x: Entry, pointer: u16) -> usize
-    requires { (length area.now ≡ 98048) × (x.slot ≤ 255) × (x.keylen ≤ 255) × (x.len ≤ 128) × (390 ≤ length body.old) }
+fn put_record(body: &mut Body, area: &[u8], x: Entry, pointer: u16) -> usize
+    requires { (length area.now ≡ 98048) × (x.slot ≤ 255) × (x.keylen ≤ 255) × (x.len ≤ 128) }
     ensures { (result ≡ x.keylen + x.len + 5) × (body.new ≡ over body.old 0 (sight_bytes (Some (rec_of area.now x)) pointer)) }
 {
-    let key = x.keylen as usize;
+    let key = usize::from(x.keylen);
     let long = [(x.keylen % 256) as u8];
     let a = put(body, 0, &long);
     let b = put(body, a, slots::part(area, x.slot, 0, key));
     let c = put_word(body, b, x.len);
-    let d = put(body, c, slots::part(area, x.slot, key, x.len as usize));
+    let d = put(body, c, slots::part(area, x.slot, key, usize::from(x.len)));
     put_word(body, d, pointer)
 }
 
 // A response of nothing but a code.
-fn code_alone(b: Book, body: &mut [u8], code: u16) -> Done
-    requires { 390 ≤ length body.old }
+fn code_alone(b: Book, body: &mut Body, code: u16) -> Done
     ensures { Says (two_bytes code) body.old body.new b result }
 {
     Done {
@@ -83,8 +82,7 @@ fn code_alone(b: Book, body: &mut [u8], code: u16) -> Done
 }
 
 // A response of nothing but a code: that of a command that took files or records away, or failed.
-fn gone(b: Book, body: &mut [u8], done: Result<Book, u16>) -> Done
-    requires { 390 ≤ length body.old }
+fn gone(b: Book, body: &mut Body, done: Result<Book, u16>) -> Done
     ensures { Says (two_bytes (result_code done)) body.old body.new (left_in b done) result }
 {
     match done {
@@ -94,9 +92,8 @@ fn gone(b: Book, body: &mut [u8], done: Result<Book, u16>) -> Done
 }
 
 // A response of the new files' identifiers and a code; of a code alone where the command failed.
-fn made(b: Book, body: &mut [u8], n: usize, done: Result<Made, u16>) -> Done
-    requires in_bounds { 390 ≤ length body.old }
-    requires few { MakesAtMost n done }
+fn made(b: Book, body: &mut Body, n: usize, done: Result<Made, u16>) -> Done
+    requires { MakesAtMost n done }
     ensures { Says (answered (ids_part n) done) body.old body.new (made_book b done) result }
 {
     match done {
@@ -112,8 +109,7 @@ fn made(b: Book, body: &mut [u8], n: usize, done: Result<Made, u16>) -> Done
 }
 
 // A response of a record's pointer and a code; of a code alone where the command failed.
-fn added(b: Book, body: &mut [u8], done: Result<Added, u16>) -> Done
-    requires { 390 ≤ length body.old }
+fn added(b: Book, body: &mut Body, done: Result<Added, u16>) -> Done
     ensures { Says (answered pointer_part done) body.old body.new (added_book b done) result }
 {
     match done {
@@ -129,9 +125,8 @@ fn added(b: Book, body: &mut [u8], done: Result<Added, u16>) -> Done
 }
 
 // A response with what Get or Find got; of a code alone where the command failed.
-fn shown(b: Book, area: &[u8], body: &mut [u8], done: Result<Got, u16>) -> Done
+fn shown(b: Book, area: &[u8], body: &mut Body, done: Result<Got, u16>) -> Done
     requires lawful { Lawful b area.now }
-    requires in_bounds { 390 ≤ length body.old }
     requires shows { Shows b done }
     ensures { Says (seen_part (sight_of area.now (entries_of b) done)) body.old body.new b result }
 {
@@ -150,9 +145,8 @@ fn shown(b: Book, area: &[u8], body: &mut [u8], done: Result<Got, u16>) -> Done
 // ---- the nine commands
 
 // Create leaves the area as it is; it is lent here since the law is one of book and area.
-fn on_create(b: Book, area: &[u8], part: &[u8], body: &mut [u8]) -> Done
-    requires lawful { Lawful b area.now }
-    requires in_bounds { 390 ≤ length body.old }
+fn on_create(b: Book, area: &[u8], part: &[u8], body: &mut Body) -> Done
+    requires { Lawful b area.now }
     ensures { Did (create_deed part.now b area.now) body.old body.new area.now result }
 {
     if part.len() != 4 {
@@ -163,9 +157,8 @@ fn on_create(b: Book, area: &[u8], part: &[u8], body: &mut [u8]) -> Done
     made(b, body, usize::from(n), done)
 }
 
-fn on_delete_files(b: Book, area: &mut [u8], part: &[u8], body: &mut [u8]) -> Done
-    requires lawful { Lawful b area.old }
-    requires in_bounds { 390 ≤ length body.old }
+fn on_delete_files(b: Book, area: &mut [u8], part: &[u8], body: &mut Body) -> Done
+    requires { Lawful b area.old }
     ensures { Did (delete_files_deed part.now b area.old) body.old body.new area.new result }
 {
     if !store_asked::has_ids(part) {
@@ -175,9 +168,8 @@ fn on_delete_files(b: Book, area: &mut [u8], part: &[u8], body: &mut [u8]) -> Do
     gone(b, body, done)
 }
 
-fn on_add(b: Book, area: &mut [u8], part: &[u8], body: &mut [u8]) -> Done
-    requires lawful { Lawful b area.old }
-    requires in_bounds { 390 ≤ length body.old }
+fn on_add(b: Book, area: &mut [u8], part: &[u8], body: &mut Body) -> Done
+    requires { Lawful b area.old }
     ensures { Did (add_deed part.now b area.old) body.old body.new area.new result }
 {
     if !store_asked::has_record(part, 2) {
@@ -189,9 +181,8 @@ fn on_add(b: Book, area: &mut [u8], part: &[u8], body: &mut [u8]) -> Done
     added(b, body, done)
 }
 
-fn on_get(b: Book, area: &[u8], part: &[u8], body: &mut [u8]) -> Done
-    requires lawful { Lawful b area.now }
-    requires in_bounds { 390 ≤ length body.old }
+fn on_get(b: Book, area: &[u8], part: &[u8], body: &mut Body) -> Done
+    requires { Lawful b area.now }
     ensures { Did (get_deed part.now b area.now) body.old body.new area.now result }
 {
     if part.len() != 5 {
@@ -206,9 +197,8 @@ fn on_get(b: Book, area: &[u8], part: &[u8], body: &mut [u8]) -> Done
     shown(b, area, body, sights::get(b, f, p, orientation))
 }
 
-fn on_update(b: Book, area: &mut [u8], part: &[u8], body: &mut [u8]) -> Done
-    requires lawful { Lawful b area.old }
-    requires in_bounds { 390 ≤ length body.old }
+fn on_update(b: Book, area: &mut [u8], part: &[u8], body: &mut Body) -> Done
+    requires { Lawful b area.old }
     ensures { Did (update_deed part.now b area.old) body.old body.new area.new result }
 {
     if !store_asked::has_record(part, 4) {
@@ -221,9 +211,8 @@ fn on_update(b: Book, area: &mut [u8], part: &[u8], body: &mut [u8]) -> Done
     added(b, body, done)
 }
 
-fn on_find(b: Book, area: &[u8], part: &[u8], body: &mut [u8]) -> Done
-    requires lawful { Lawful b area.now }
-    requires in_bounds { 390 ≤ length body.old }
+fn on_find(b: Book, area: &[u8], part: &[u8], body: &mut Body) -> Done
+    requires { Lawful b area.now }
     ensures { Did (find_deed part.now b area.now) body.old body.new area.now result }
 {
     if !store_asked::has_key(part) {
@@ -233,9 +222,8 @@ fn on_find(b: Book, area: &[u8], part: &[u8], body: &mut [u8]) -> Done
     shown(b, area, body, done)
 }
 
-fn on_delete(b: Book, area: &mut [u8], part: &[u8], body: &mut [u8]) -> Done
-    requires lawful { Lawful b area.old }
-    requires in_bounds { 390 ≤ length body.old }
+fn on_delete(b: Book, area: &mut [u8], part: &[u8], body: &mut Body) -> Done
+    requires { Lawful b area.old }
     ensures { Did (delete_deed part.now b area.old) body.old body.new area.new result }
 {
     if part.len() != 4 {
@@ -245,9 +233,8 @@ fn on_delete(b: Book, area: &mut [u8], part: &[u8], body: &mut [u8]) -> Done
     gone(b, body, done)
 }
 
-fn on_find_delete(b: Book, area: &mut [u8], part: &[u8], body: &mut [u8]) -> Done
-    requires lawful { Lawful b area.old }
-    requires in_bounds { 390 ≤ length body.old }
+fn on_find_delete(b: Book, area: &mut [u8], part: &[u8], body: &mut Body) -> Done
+    requires { Lawful b area.old }
     ensures { Did (find_delete_deed part.now b area.old) body.old body.new area.new result }
 {
     if !store_asked::has_key(part) {
@@ -257,9 +244,8 @@ fn on_find_delete(b: Book, area: &mut [u8], part: &[u8], body: &mut [u8]) -> Don
     gone(b, body, done)
 }
 
-fn on_clear(b: Book, area: &mut [u8], part: &[u8], body: &mut [u8]) -> Done
-    requires lawful { Lawful b area.old }
-    requires in_bounds { 390 ≤ length body.old }
+fn on_clear(b: Book, area: &mut [u8], part: &[u8], body: &mut Body) -> Done
+    requires { Lawful b area.old }
     ensures { Did (clear_deed part.now b area.old) body.old body.new area.new result }
 {
     if part.len() != 2 {
@@ -272,9 +258,8 @@ fn on_clear(b: Book, area: &mut [u8], part: &[u8], body: &mut [u8]) -> Done
 // ---- what the store recognises beside them
 
 // Open Handler and Close Handler: the router keeps the mark, so there is nothing to do.
-fn on_mark(b: Book, area: &[u8], part: &[u8], body: &mut [u8]) -> Done
-    requires lawful { Lawful b area.now }
-    requires in_bounds { 390 ≤ length body.old }
+fn on_mark(b: Book, area: &[u8], part: &[u8], body: &mut Body) -> Done
+    requires { Lawful b area.now }
     ensures { Did (mark_deed part.now b area.now) body.old body.new area.now result }
 {
     if part.len() != 0 {
@@ -286,9 +271,8 @@ fn on_mark(b: Book, area: &[u8], part: &[u8], body: &mut [u8]) -> Done
 // ---- all of it
 
 // Does what a type and its data ask; a type that is not the store's is a wrong shape.
-fn obey(kind: u8, b: Book, area: &mut [u8], part: &[u8], body: &mut [u8]) -> Done
-    requires lawful { Lawful b area.old }
-    requires in_bounds { 390 ≤ length body.old }
+fn obey(kind: u8, b: Book, area: &mut [u8], part: &[u8], body: &mut Body) -> Done
+    requires { Lawful b area.old }
     ensures { Did (deed_of kind part.now b area.old) body.old body.new area.new result }
 {
     match kind {

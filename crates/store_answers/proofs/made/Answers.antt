@@ -13,9 +13,9 @@ returns-in-Ok c =
     let m = c.in-Ok.made in
     let v = c.put_ids-end.ensures in
     let w = c.put_word.ensures in
-    let r : Roomy a.n m = subst (MakesAtMost a.n) c.in-Ok.is c.requires.few in
+    let r : Roomy a.n m = subst (MakesAtMost a.n) c.in-Ok.is c.requires in
     let p = ids_part a.n m in
     let size : length p ≡ a.n * 2 = words_long (take a.n m.ids) ∙ ap (λ (k : ℕ). k * 2) (length-take-le a.n m.ids (omega (arith, r.few, r.places))) in
     let two : c.put_word.new.body ≡ over a.body.now 0 (p ++ two_bytes 0) =
-    then a.body.now p (two_bytes 0) c.put_ids-end.new.body c.put_word.new.body c.put_ids-end.result v.1 (omega (arith, v.0, size)) w.1 (omega (arith, size, r.few, c.requires.in_bounds)) in
+    then a.body.now p (two_bytes 0) c.put_ids-end.new.body c.put_word.new.body c.put_ids-end.result v.1 (omega (arith, v.0, size)) w.1 (omega (arith, size, r.few)) in
     rw c.in-Ok.is (record { long = omega (arith, v.0, w.0, size, length-append p (two_bytes 0)); next = refl; body = two ∙ over-start a.body.now (p ++ two_bytes 0) })

@@ -66,4 +66,4 @@ returns-in_default c =
     as-deed _ (code_deed unsupported_operation a.b a.area.now) _ _ _ _
     (by-other a.part.now a.b a.area.now a.kind (λ e. omega arith) (λ e. omega arith) (λ e. omega arith) (λ e. omega arith) (λ e. omega arith) (λ e. omega arith)
     (λ e. omega arith) (λ e. omega arith) (λ e. omega arith) (λ e. omega arith) (λ e. omega arith))
-    (record { says = c.code_alone.ensures; area' = refl; law = c.requires.lawful })
+    (record { says = c.code_alone.ensures; area' = refl; law = c.requires })

@@ -26,5 +26,5 @@ returns c =
     let d = data-part a.part.now 2 t (3 + c.from-end.result + 2) (omega (arith, n)) in
     added-did (record_shape 2 a.part.now) c.add-done.result (add_of a.b a.area.now (file_in a.part.now) (key_from a.part.now 2) (data_from a.part.now 2)) a.b a.area.now
     (add_area a.b a.area.now (file_in a.part.now) (key_from a.part.now 2) (data_from a.part.now 2)) _ _ _ _
-    (add_right a.b a.area.now c.requires.lawful (file_in a.part.now) (key_from a.part.now 2) (data_from a.part.now 2)).lawful t
+    (add_right a.b a.area.now c.requires (file_in a.part.now) (key_from a.part.now 2) (data_from a.part.now 2)).lawful t
     (w.0 ∙ (λ i. add_of a.b a.area.now (f i) (k i) (d i))) (w.1 ∙ (λ i. add_area a.b a.area.now (f i) (k i) (d i))) c.added.ensures

@@ -14,5 +14,5 @@ returns c =
     let f = c.word_at.ensures in
     let p = c.word_at-2.ensures in
     gone-did (eqb (length a.part.now) 4) c.delete-done.result (delete_of a.b (file_in a.part.now) (word_at a.part.now 2)) a.b a.area.now
-    (delete_area a.b a.area.now (file_in a.part.now) (word_at a.part.now 2)) _ _ _ _ (delete-right a.b a.area.now c.requires.lawful (file_in a.part.now) (word_at a.part.now 2)).lawful
+    (delete_area a.b a.area.now (file_in a.part.now) (word_at a.part.now 2)) _ _ _ _ (delete-right a.b a.area.now c.requires (file_in a.part.now) (word_at a.part.now 2)).lawful
     (eq-eqb (length a.part.now) 4 c.if-part-ne4.false) (w.0 ∙ (λ i. delete_of a.b (f i) (p i))) (w.1 ∙ (λ i. delete_area a.b a.area.now (f i) (p i))) c.gone.ensures

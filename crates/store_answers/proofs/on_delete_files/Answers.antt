@@ -11,4 +11,4 @@ returns c =
     let a = c.args in
     let w = c.delete_files-done.ensures in
     gone-did (ids_shape a.part.now) c.delete_files-done.result (delete_files_of a.b (ids_of a.part.now)) a.b a.area.now (delete_files_area a.b (ids_of a.part.now) a.area.now) _ _ _ _
-    (delete-files-right a.b a.area.now c.requires.lawful (ids_of a.part.now)).lawful (sym c.if-not-has_ids.ensures) w.0 w.1 c.gone.ensures
+    (delete-files-right a.b a.area.now c.requires (ids_of a.part.now)).lawful (sym c.if-not-has_ids.ensures) w.0 w.1 c.gone.ensures

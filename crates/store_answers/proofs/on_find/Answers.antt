@@ -18,7 +18,7 @@ shown-requires-clause-shows c =
     let a = c.args in
     let k = key-rest a.part.now (sym c.if-not-has_key.ensures) in
     let e = c.find-done.ensures ∙ (λ i. find_of a.b a.area.now (c.word_at.ensures i) (k i)) in
-    subst (Shows a.b) (sym e) (found_inside a.b c.requires.lawful.shape (file_in a.part.now) a.area.now (key_from a.part.now 2))
+    subst (Shows a.b) (sym e) (found_inside a.b c.requires.shape (file_in a.part.now) a.area.now (key_from a.part.now 2))
 
 pub returns : goal.returns
 returns c =
@@ -26,4 +26,4 @@ returns c =
     let t = sym c.if-not-has_key.ensures in
     let k = key-rest a.part.now t in
     let e = c.find-done.ensures ∙ (λ i. find_of a.b a.area.now (c.word_at.ensures i) (k i)) in
-    seen (key_shape a.part.now) c.find-done.result (find_of a.b a.area.now (file_in a.part.now) (key_from a.part.now 2)) a.b a.area.now _ _ _ c.requires.lawful t e c.shown.ensures
+    seen (key_shape a.part.now) c.find-done.result (find_of a.b a.area.now (file_in a.part.now) (key_from a.part.now 2)) a.b a.area.now _ _ _ c.requires t e c.shown.ensures

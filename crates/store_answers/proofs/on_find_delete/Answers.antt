@@ -20,5 +20,5 @@ returns c =
     let t = sym c.if-not-has_key.ensures in
     let k = key-rest a.part.now t in
     gone-did (key_shape a.part.now) c.find_delete-done.result (find_delete_of a.b a.area.now (file_in a.part.now) (key_from a.part.now 2)) a.b a.area.now
-    (find_delete_area a.b a.area.now (file_in a.part.now) (key_from a.part.now 2)) _ _ _ _ (find-delete-right a.b a.area.now c.requires.lawful (file_in a.part.now) (key_from a.part.now 2)).lawful
+    (find_delete_area a.b a.area.now (file_in a.part.now) (key_from a.part.now 2)) _ _ _ _ (find-delete-right a.b a.area.now c.requires (file_in a.part.now) (key_from a.part.now 2)).lawful
     t (w.0 ∙ (λ i. find_delete_of a.b a.area.now (f i) (k i))) (w.1 ∙ (λ i. find_delete_area a.b a.area.now (f i) (k i))) c.gone.ensures

@@ -28,5 +28,5 @@ returns c =
     let d = data-part a.part.now 4 t (5 + c.from-end.result + 2) (omega (arith, n)) in
     added-did (record_shape 4 a.part.now) c.update-done.result (update_of a.b a.area.now (file_in a.part.now) (word_at a.part.now 2) (key_from a.part.now 4) (data_from a.part.now 4)) a.b a.area.now
     (update_area a.b a.area.now (file_in a.part.now) (word_at a.part.now 2) (key_from a.part.now 4) (data_from a.part.now 4)) _ _ _ _
-    (update-right a.b a.area.now c.requires.lawful (file_in a.part.now) (word_at a.part.now 2) (key_from a.part.now 4) (data_from a.part.now 4)).lawful t
+    (update-right a.b a.area.now c.requires (file_in a.part.now) (word_at a.part.now 2) (key_from a.part.now 4) (data_from a.part.now 4)).lawful t
     (w.0 ∙ (λ i. update_of a.b a.area.now (f i) (p i) (k i) (d i))) (w.1 ∙ (λ i. update_area a.b a.area.now (f i) (p i) (k i) (d i))) c.added.ensures

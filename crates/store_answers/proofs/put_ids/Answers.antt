@@ -8,9 +8,8 @@ loop-i-preserved c =
     let l = c.loop-i in
     let a = c.args in
     let h : l.i < 16 = omega arith in (
-      omega arith,
+      l.invariant.0,
       l.invariant.1,
       l.invariant.2,
-      l.invariant.3,
-      placed-more a.body.now a.ids.now l.body _ l.i l.invariant.2 l.invariant.3 h l.invariant.4 c.put_word.ensures.1,
+      placed-more a.body.now a.ids.now l.body _ l.i l.invariant.1 l.invariant.2 h l.invariant.3 c.put_word.ensures.1,
     )

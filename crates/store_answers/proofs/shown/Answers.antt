@@ -31,7 +31,7 @@ returns-in-Ok c =
     let d : x.len ≤ 128 = omega (arith, f.body, l.1) in
     let n : length p ≡ x.keylen + x.len + 5 = sight-long a.area.now x s.lawful.roomy f.slot k d g.other in
     let two : c.put_word.new.body ≡ over a.body.now 0 (p ++ two_bytes 0) =
-    then a.body.now p (two_bytes 0) c.put_record-end.new.body c.put_word.new.body c.put_record-end.result v.1 (omega (arith, v.0, n)) w.1 (omega (arith, n, k, d, s.in_bounds)) in
+    then a.body.now p (two_bytes 0) c.put_record-end.new.body c.put_word.new.body c.put_record-end.result v.1 (omega (arith, v.0, n)) w.1 (omega (arith, n, k, d)) in
     rw c.in-Ok.is
     (record {
       long = omega (arith, v.0, w.0, n, length-append p (two_bytes 0), ap (λ (y : Entry). length (sight_bytes (Some (rec_of a.area.now y)) g.other ++ two_bytes 0)) e);
