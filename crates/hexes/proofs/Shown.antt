@@ -3,7 +3,8 @@ use Prim.Native.Nat.{ℕ}
 use mathlib.Core.Path.{◌≡◌, refl}
 use mathlib.Core.List.{List, [], ◌∷◌, ◌++◌}
 use Rattle.text.specs.Text.{ascii}
-use Rattle.hexes.specs.declared.Ends.TheVariants.{Whole, Odd, Foreign}
+use Rattle.std.specs.Prelude.{Ok, Err}
+use Rattle.hexes.specs.declared.Mistake.TheVariants.{Odd, Foreign}
 use Rattle.hexes.specs.Reading.{class_of, step_of, scan_of, spot_of}
 use Rattle.hexes.specs.Writing.{advanced, splits_at, name_of, gap_of, end_of, written_of}
 
@@ -29,10 +30,10 @@ written = refl
 
 -- digits of either case, in any grouping, but a byte's two on one line; a comment goes to the end of its line
 pub record Read : Type 0 where
-  pub whole : scan_of (ascii "0aF f\t9 0# 12 g\r\n 34") ≡ record { bytes = 0x0A ∷ 0xFF ∷ 0x90 ∷ 0x34 ∷ []; ends = Whole }
-  pub odd : scan_of (ascii "01 2\n3") ≡ record { bytes = 0x01 ∷ []; ends = Odd 3 }
-  pub cut : scan_of (ascii "01 2") ≡ record { bytes = 0x01 ∷ []; ends = Odd 3 }
-  pub foreign : scan_of (ascii "01 2g") ≡ record { bytes = 0x01 ∷ []; ends = Foreign 4 }
+  pub whole : scan_of (ascii "0aF f\t9 0# 12 g\r\n 34") ≡ record { bytes = 0x0A ∷ 0xFF ∷ 0x90 ∷ 0x34 ∷ []; ends = Ok tt }
+  pub odd : scan_of (ascii "01 2\n3") ≡ record { bytes = 0x01 ∷ []; ends = Err (Odd 3) }
+  pub cut : scan_of (ascii "01 2") ≡ record { bytes = 0x01 ∷ []; ends = Err (Odd 3) }
+  pub foreign : scan_of (ascii "01 2g") ≡ record { bytes = 0x01 ∷ []; ends = Err (Foreign 4) }
 
 pub read : Read
 unfolding class_of step_of scan_of

@@ -11,21 +11,39 @@
 
 // ---- from text to bytes
 
-// How a text ends: whole, or at a digit without its second one, or at a character that is none.
+// What ends a text before its end, with the place: a digit without its second one, or a character that
+// is none.
 #[derive(Clone, Copy)]
-pub enum Ends {
-    Whole,
+pub enum Mistake {
     Odd(usize),
     Foreign(usize),
 }
 
-// What one character does. A mode below 16 is a first digit, 16 stands between bytes, and 17 is
-// a comment. The mark is the place of the last first digit.
+// What a character is: a digit with its value, a space between digits, the end of a line, the `#` of a
+// comment, or none of a text.
+#[derive(Clone, Copy)]
+pub enum Class {
+    Digit(u8),
+    Blank,
+    Feed,
+    Hash,
+    Other,
+}
+
+// What a text is in the middle of: nothing, a byte whose first digit was read at a place, or a comment.
+#[derive(Clone, Copy)]
+pub enum Mode {
+    Between,
+    Half { digit: u8, at: usize },
+    Comment,
+}
+
+// What one character does.
 #[derive(Clone, Copy)]
 pub enum Step {
-    Go { mode: u8, mark: usize },
+    Go(Mode),
     Byte(u8),
-    Stop(Ends),
+    Stop(Mistake),
 }
 
 // How much of the buffer was filled, how many bytes the text has, and how it ends.
@@ -33,7 +51,7 @@ pub enum Step {
 pub struct Taken {
     pub length: usize,
     pub count: usize,
-    pub ends: Ends,
+    pub ends: Result<(), Mistake>,
 }
 
 // A place of a text as people count: from 1.

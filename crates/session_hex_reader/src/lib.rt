@@ -5,87 +5,57 @@
 #![tactic(auto)]
 
 ghost use Rattle.std.specs.Prelude.{◌≡◌, take};
-ghost use Rattle.hexes.specs.Reading.{class_of, step_of, ended_of, Reads, spot_of};
+ghost use Rattle.hexes.specs.Reading.{class_of, Low, Begun, GoesOn, step_of, ended_of, Reads, spot_of};
 
-use hexes::{Ends, Spot, Step, Taken};
+use hexes::{Class, Mistake, Mode, Spot, Step, Taken};
+use text::Writer;
 
 // ---- one character
 
-// A digit's value, 16 for a blank, 17 for the end of a line, 18 for `#`, or 19.
+// What a character is.
 #[tactic(auto, unfolding(hexes::specs::Reading::class_of))]
-fn class(c: u8) -> u8
-    ensures { result ≡ class_of c }
+fn class(c: u8) -> Class
+    ensures value { result ≡ class_of c }
+    ensures low { Low result }
 {
-    if c == 32 {
-        16
-    } else if c == 9 {
-        16
-    } else if c == 13 {
-        16
-    } else if c == 10 {
-        17
-    } else if c == 35 {
-        18
-    } else if c < 48 {
-        19
-    } else if c < 58 {
-        c - 48
-    } else if c < 65 {
-        19
-    } else if c < 71 {
-        c - 55
-    } else if c < 97 {
-        19
-    } else if c < 103 {
-        c - 87
-    } else {
-        19
+    match c {
+        b' ' | b'\t' | b'\r' => Class::Blank,
+        b'\n' => Class::Feed,
+        b'#' => Class::Hash,
+        b'0'..=b'9' => Class::Digit(c - 48),
+        b'A'..=b'F' => Class::Digit(c - 55),
+        b'a'..=b'f' => Class::Digit(c - 87),
+        _ => Class::Other,
     }
 }
 
-// What a character of a class does, at a place.
+// What a character does, at a place.
 #[tactic(auto, unfolding(hexes::specs::Reading::step_of))]
-fn judge(mode: u8, mark: usize, kind: u8, i: usize) -> Step
-    ensures { result ≡ step_of mode mark kind i }
+fn judge(mode: Mode, c: u8, i: usize) -> Step
+    requires { Begun mode }
+    ensures value { result ≡ step_of mode (class_of c) i }
+    ensures begun { GoesOn result }
 {
-    if mode == 17 {
-        if kind == 17 {
-            return Step::Go { mode: 16, mark };
-        }
-        return Step::Go { mode: 17, mark };
+    match (mode, class(c)) {
+        (Mode::Comment, Class::Feed) => Step::Go(Mode::Between),
+        (Mode::Comment, _) => Step::Go(Mode::Comment),
+        (Mode::Half { digit, .. }, Class::Digit(low)) => Step::Byte(digit * 16 + low),
+        (Mode::Between, Class::Digit(digit)) => Step::Go(Mode::Half { digit, at: i }),
+        (_, Class::Blank) => Step::Go(mode),
+        (_, Class::Other) => Step::Stop(Mistake::Foreign(i)),
+        (Mode::Half { at, .. }, _) => Step::Stop(Mistake::Odd(at)),
+        (Mode::Between, Class::Feed) => Step::Go(Mode::Between),
+        (Mode::Between, Class::Hash) => Step::Go(Mode::Comment),
     }
-    if kind < 16 {
-        if mode < 16 {
-            return Step::Byte(mode * 16 + kind);
-        }
-        return Step::Go {
-            mode: kind,
-            mark: i,
-        };
-    }
-    if kind == 16 {
-        return Step::Go { mode, mark };
-    }
-    if kind == 19 {
-        return Step::Stop(Ends::Foreign(i));
-    }
-    if mode < 16 {
-        return Step::Stop(Ends::Odd(mark));
-    }
-    if kind == 17 {
-        return Step::Go { mode: 16, mark };
-    }
-    Step::Go { mode: 17, mark }
 }
 
 // How a text ends after its last character.
-fn ended(mode: u8, mark: usize) -> Ends
-    ensures { result ≡ ended_of mode mark }
+fn ended(mode: Mode) -> Result<(), Mistake>
+    ensures { result ≡ ended_of mode }
 {
-    if mode < 16 {
-        Ends::Odd(mark)
-    } else {
-        Ends::Whole
+    match mode {
+        Mode::Half { at, .. } => Err(Mistake::Odd(at)),
+        _ => Ok(()),
     }
 }
 
@@ -95,62 +65,47 @@ fn ended(mode: u8, mark: usize) -> Ends
 pub fn read(text: &[u8], out: &mut [u8]) -> Taken
     ensures { Reads text.now out.old out.new result }
 {
-    let mut mode = 16u8;
-    let mut mark = 0;
-    let mut length = 0;
+    let mut to = Writer::new(out, 0);
+    let mut mode = Mode::Between;
     let mut count = 0;
-    let mut i = 0;
-    while i < text.len() {
-        let kind = class(text[i]);
-        match judge(mode, mark, kind, i) {
-            Step::Go {
-                mode: next,
-                mark: at,
-            } => {
-                mode = next;
-                mark = at;
-            }
+    for (i, c) in text.iter().enumerate() {
+        match judge(mode, *c, i) {
+            Step::Go(next) => mode = next,
             Step::Byte(byte) => {
-                length = text::put(out, length, byte);
+                to.put(byte);
                 count += 1;
-                mode = 16;
+                mode = Mode::Between;
             }
-            Step::Stop(ends) => {
+            Step::Stop(mistake) => {
                 return Taken {
-                    length,
+                    length: to.place(),
                     count,
-                    ends,
+                    ends: Err(mistake),
                 };
             }
         }
-        i += 1;
     }
-    let ends = ended(mode, mark);
     Taken {
-        length,
+        length: to.place(),
         count,
-        ends,
+        ends: ended(mode),
     }
 }
 
 // The line and the column of a place.
+#[tactic(auto, using(std::proofs::lemmas::List::take_min), unfolding(hexes::specs::Reading::spot_of))]
 pub fn locate(text: &[u8], at: usize) -> Spot
     ensures { result ≡ spot_of (take at text.now) }
 {
     let mut line = 1;
     let mut column = 1;
-    let mut i = 0;
-    while i < text.len() {
-        if at <= i {
-            break;
-        }
-        if text[i] == 10 {
+    for c in &text[..at.min(text.len())] {
+        if *c == b'\n' {
             line += 1;
             column = 1;
         } else {
             column += 1;
         }
-        i += 1;
     }
     Spot { line, column }
 }
