@@ -14,8 +14,9 @@
 
 ghost use Rattle.std.specs.Prelude.{◌≤◌, ◌<◌, ◌≡◌, length};
 
-use hexes::Ends;
+use hexes::Mistake;
 use std::env::Env;
+use text::Writer;
 
 // Room for the longest text, and one character more.
 fn large_text() -> [u8; 524289]
@@ -34,13 +35,13 @@ fn refuse(rt: HostRuntime, why: &[u8]) {
 fn refuse_at(rt: HostRuntime, text: &[u8], at: usize, why: &[u8]) {
     let spot = session_hex_reader::locate(text, at);
     let mut line = [0u8; 128];
-    let a = text::put_all(&mut line, 0, b"line ");
-    let b = text::put_decimal(&mut line, a, spot.line);
-    let c = text::put_all(&mut line, b, b", column ");
-    let d = text::put_decimal(&mut line, c, spot.column);
-    let e = text::put_all(&mut line, d, why);
-    if e <= 128 {
-        refuse(rt, &line[..e]);
+    let mut out = Writer::new(&mut line, 0);
+    out.put_number(b"line ", spot.line);
+    out.put_number(b", column ", spot.column);
+    out.put_all(why);
+    let end = out.place();
+    if end <= 128 {
+        refuse(rt, &line[..end]);
     }
 }
 
@@ -55,11 +56,10 @@ fn send(rt: HostRuntime, bytes: &[u8], used: usize) -> bool {
 fn show_bytes(rt: HostRuntime, text: &[u8]) {
     let mut out = io::large_buffer();
     let taken = session_hex_reader::read(text, &mut out);
-    let ends = taken.ends;
-    match ends {
-        Ends::Odd(at) => refuse_at(rt, text, at, b": a digit without its second one"),
-        Ends::Foreign(at) => refuse_at(rt, text, at, b": no hex digit"),
-        Ends::Whole => {
+    match taken.ends {
+        Err(Mistake::Odd(at)) => refuse_at(rt, text, at, b": a digit without its second one"),
+        Err(Mistake::Foreign(at)) => refuse_at(rt, text, at, b": no hex digit"),
+        Ok(()) => {
             if 65536 < taken.count {
                 refuse(rt, b"the text has more than 65,536 bytes");
             } else {
