@@ -10,7 +10,10 @@
 // `x` is the left edge of a column, 16 left of its line; `y` is the top of a row, 20 above its arrow.
 #![tactic(auto)]
 
+ghost use Rattle.std.specs.Prelude.{◌≡◌, ◌+◌, ◌≤◌, ◌<◌};
+
 use arrivals::Arrival;
+use message::Head;
 use place::Place;
 use router::Router;
 use rules::Outcome;
@@ -27,809 +30,562 @@ const HUB: u16 = 324;
 
 // ---- forms
 
-// One form more, where the list has room for it: for 256 forms.
-fn add(list: &mut [usize; 2048], n: usize, form: [usize; 8]) -> usize {
-    if 255 < n {
-        return n;
-    }
-    let at = n * 8;
-    let mut i = 0;
-    while i < 8 {
-        list[at + i] = form[i];
-        i += 1;
-    }
-    n + 1
+// The forms of a part of the picture, in their order: each is 8 numbers of the list.
+#[derive(Drop)]
+pub struct Forms {
+    pub list: [usize; 2048],
+    pub count: usize,
+    ghost bounded: { count ≤ 256 },
 }
 
-fn add_two(list: &mut [usize; 2048], n: usize, form: usize, a: usize, b: usize) -> usize {
-    add(list, n, [form, a, b, 0, 0, 0, 0, 0])
-}
+impl Forms {
+    // No form yet.
+    pub fn new() -> Forms
+        ensures { result.count ≡ 0 }
+    {
+        Forms {
+            list: [0; 2048],
+            count: 0,
+        }
+    }
 
-fn add_three(
-    list: &mut [usize; 2048],
-    n: usize,
-    form: usize,
-    a: usize,
-    b: usize,
-    c: usize,
-) -> usize {
-    add(list, n, [form, a, b, c, 0, 0, 0, 0])
+    // One form more, where the list has room for it. Numbers that it does not have are 0.
+    fn add(&mut self, form: &[usize]) {
+        if self.count == 256 {
+            return;
+        }
+        let at = self.count * 8;
+        let there = form.len().min(8);
+        self.list[at..at + 8].fill(0);
+        self.list[at..at + there].copy_from_slice(&form[..there]);
+        self.count += 1;
+    }
 }
 
 // ---- places on a page
 
 // How many pages there are: the last row, which is no step, goes below the last page's steps.
 fn page_count(total: usize) -> usize {
-    if total < 2 {
-        return 1;
-    }
-    (total - 2) / ROWS + 1
+    total.saturating_sub(2) / ROWS + 1
 }
 
-// Whether a row begins a page.
+// Whether a row begins a page. The last one does only where it is the first.
 fn is_first(row: usize, total: usize) -> bool {
-    if row == 0 {
-        return true;
-    }
-    if total <= row {
-        return false;
-    }
-    if total - row == 1 {
-        return false;
-    }
-    row % ROWS == 0
+    row == 0 || 1 < total.saturating_sub(row) && row % ROWS == 0
 }
 
 // The top of a row on its page.
 fn top_of(row: usize, total: usize) -> u16 {
-    if row % ROWS == 0 && !is_first(row, total) {
+    let above = row % ROWS;
+    if above == 0 && !is_first(row, total) {
         return 246 + ROWS as u16 * 30;
     }
-    246 + (row % ROWS) as u16 * 30
-}
-
-// The number of a handler's column from the left, from 1 on. The router's is 0; a handler that has no
-// row is shown there.
-fn column_of(router: Router, address: u16) -> usize {
-    let cells = router.cells;
-    let wanted = tapa::handler(address);
-    let mut i = 0;
-    while i < 16 {
-        if i < router.count && router_rows::address_at(&cells, i) == wanted {
-            return i + 1;
-        }
-        i += 1;
-    }
-    0
-}
-
-// Where a column stands: the fewer there are, the further apart.
-fn place_of(router: Router, column: usize) -> u16 {
-    if 16 < column {
-        return HUB;
-    }
-    let count = router.count;
-    if count < 7 {
-        return HUB + column as u16 * 100;
-    }
-    if count < 11 {
-        return HUB + column as u16 * 64;
-    }
-    HUB + column as u16 * 40
-}
-
-fn lane_of(router: Router, address: u16) -> u16 {
-    place_of(router, column_of(router, address))
-}
-
-// ---- how the columns stand after a step
-
-// Each thread has its own place within a column, so that bars stand side by side. This is 6 left of it.
-fn bar_of(router: Router, address: u16, thread: usize) -> usize {
-    lane_of(router, address) as usize + thread % 8 * 3
-}
-
-fn draw_place(list: &mut [usize; 2048], n: usize, router: Router, place: Place, y: u16) -> usize {
-    let form = if place.owed {
-        stencil::OWED
-    } else {
-        stencil::WAIT
-    };
-    let thread = place.thread as usize % 8;
-    let x = lane_of(router, place.asked) as usize + 6 + thread * 3;
-    add_three(list, n, form, thread, x, y as usize + 20)
-}
-
-// One place of the list, where it is in use.
-fn draw_used(
-    list: &mut [usize; 2048],
-    n: usize,
-    router: Router,
-    place: Place,
-    used: bool,
-    y: u16,
-) -> usize {
-    if used {
-        return draw_place(list, n, router, place, y);
-    }
-    n
-}
-
-// What has to be answered, and what is owed.
-fn draw_places(list: &mut [usize; 2048], n: usize, router: Router, y: u16) -> usize {
-    let places = router.list;
-    let mut next = n;
-    let mut i = 0;
-    while i < 48 {
-        let place = router_tests::place_of(places[i]);
-        next = draw_used(list, next, router, place, i < router.len, y);
-        i += 1;
-    }
-    next
-}
-
-// A grey band, where a column's handler is closed.
-fn draw_band(
-    list: &mut [usize; 2048],
-    n: usize,
-    router: Router,
-    column: usize,
-    cell: u32,
-    y: u16,
-) -> usize {
-    if router.count < column {
-        return n;
-    }
-    if cell % 2 == 1 {
-        return n;
-    }
-    let x = place_of(router, column);
-    add_two(list, n, stencil::SHUT, x as usize + 16, y as usize + 20)
-}
-
-fn draw_bands(list: &mut [usize; 2048], n: usize, router: Router, y: u16) -> usize {
-    let cells = router.cells;
-    let mut next = n;
-    let mut i = 0;
-    while i < 16 {
-        next = draw_band(list, next, router, i + 1, cells[i], y);
-        i += 1;
-    }
-    next
-}
-
-// ---- arrows; `h` is the height of one
-
-// The arrow's head: it points away from where the arrow begins.
-fn draw_head(
-    list: &mut [usize; 2048],
-    n: usize,
-    thread: usize,
-    from: u16,
-    to: u16,
-    h: u32,
-) -> usize {
-    let form = if from < to {
-        stencil::RIGHT_HEAD
-    } else {
-        stencil::LEFT_HEAD
-    };
-    add_three(list, n, form, thread, to as usize + 16, h as usize)
-}
-
-// The thread's number in a circle, where the arrow begins.
-fn draw_thread(list: &mut [usize; 2048], n: usize, thread: usize, x: u16, h: u32) -> usize {
-    let next = add_three(
-        list,
-        n,
-        stencil::THREAD,
-        thread,
-        x as usize + 16,
-        h as usize,
-    );
-    add_three(
-        list,
-        next,
-        stencil::THREAD_NUMBER,
-        x as usize + 16,
-        h as usize + 4,
-        thread,
-    )
-}
-
-fn draw_line(
-    list: &mut [usize; 2048],
-    n: usize,
-    form: usize,
-    thread: usize,
-    from: u16,
-    to: u16,
-    h: u32,
-) -> usize {
-    add(
-        list,
-        n,
-        [
-            form,
-            thread,
-            from as usize + 16,
-            h as usize,
-            to as usize + 16,
-            0,
-            0,
-            0,
-        ],
-    )
-}
-
-// A line with its head and its thread.
-fn draw_arrow(
-    list: &mut [usize; 2048],
-    n: usize,
-    form: usize,
-    thread: usize,
-    from: u16,
-    to: u16,
-    h: u32,
-) -> usize {
-    let a = draw_line(list, n, form, thread, from, to, h);
-    let b = draw_head(list, a, thread, from, to, h);
-    draw_thread(list, b, thread, from, h)
-}
-
-// The type or the code, in the middle of an arrow; `base` is where its letters stand.
-fn draw_label(
-    list: &mut [usize; 2048],
-    n: usize,
-    form: usize,
-    value: usize,
-    from: u16,
-    to: u16,
-    base: usize,
-) -> usize {
-    let x = (from as usize + to as usize) / 2 + 16;
-    add_three(list, n, form, x, base, value)
-}
-
-// A cross over the router's column, or over the bar of a thread.
-fn draw_cross(list: &mut [usize; 2048], n: usize, x: usize, y: u16) -> usize {
-    add_two(list, n, stencil::CROSS, x, y as usize + 14)
-}
-
-// ---- the words beside a step
-
-fn draw_addresses(
-    list: &mut [usize; 2048],
-    n: usize,
-    form: usize,
-    from: u16,
-    to: u16,
-    y: u16,
-) -> usize {
-    add_three(list, n, form, y as usize + 17, from as usize, to as usize)
-}
-
-fn draw_type(list: &mut [usize; 2048], n: usize, kind: u8, y: u16) -> usize {
-    add_three(
-        list,
-        n,
-        stencil::OF_TYPE,
-        y as usize + 29,
-        kind as usize,
-        names::type_name(kind),
-    )
-}
-
-fn draw_code(list: &mut [usize; 2048], n: usize, code: u16, y: u16) -> usize {
-    add_three(
-        list,
-        n,
-        stencil::WITH_CODE,
-        y as usize + 29,
-        code as usize,
-        names::code_name(code),
-    )
-}
-
-// ---- the step by its outcome
-
-fn colour_of(thread: u8) -> usize {
-    thread as usize % 8
-}
-
-// A question goes to who is asked.
-fn draw_question(
-    list: &mut [usize; 2048],
-    n: usize,
-    router: Router,
-    asker: u16,
-    asked: u16,
-    kind: u8,
-    thread: u8,
-    y: u16,
-) -> usize {
-    let from = lane_of(router, asker);
-    let to = lane_of(router, asked);
-    let a = draw_arrow(
-        list,
-        n,
-        stencil::QUESTION,
-        colour_of(thread),
-        from,
-        to,
-        y as u32 + 20,
-    );
-    let b = draw_label(
-        list,
-        a,
-        stencil::TYPE_LABEL,
-        kind as usize,
-        from,
-        to,
-        y as usize + 16,
-    );
-    draw_type(list, b, kind, y)
-}
-
-fn draw_passed(
-    list: &mut [usize; 2048],
-    n: usize,
-    router: Router,
-    asker: u16,
-    asked: u16,
-    kind: u8,
-    thread: u8,
-    y: u16,
-) -> usize {
-    let next = draw_question(list, n, router, asker, asked, kind, thread, y);
-    draw_addresses(list, next, stencil::PASSED, asker, asked, y)
-}
-
-fn draw_event(list: &mut [usize; 2048], n: usize, router: Router, came: Arrival, y: u16) -> usize {
-    let next = draw_question(
-        list,
-        n,
-        router,
-        came.from,
-        came.to,
-        came.kind,
-        came.thread,
-        y,
-    );
-    draw_addresses(list, next, stencil::EVENT, came.from, came.to, y)
-}
-
-fn draw_answered(
-    list: &mut [usize; 2048],
-    n: usize,
-    router: Router,
-    asked: u16,
-    asker: u16,
-    thread: u8,
-    code: u16,
-    y: u16,
-) -> usize {
-    let from = lane_of(router, asked);
-    let to = lane_of(router, asker);
-    let a = draw_arrow(
-        list,
-        n,
-        stencil::ANSWER,
-        colour_of(thread),
-        from,
-        to,
-        y as u32 + 20,
-    );
-    let b = draw_label(
-        list,
-        a,
-        stencil::CODE_LABEL,
-        code as usize,
-        from,
-        to,
-        y as usize + 16,
-    );
-    let c = draw_addresses(list, b, stencil::ANSWERED, asked, asker, y);
-    draw_code(list, c, code, y)
-}
-
-// A reply that comes late ends at the router, in a filled square.
-fn draw_swallowed(
-    list: &mut [usize; 2048],
-    n: usize,
-    router: Router,
-    came: Arrival,
-    y: u16,
-) -> usize {
-    let from = lane_of(router, came.from);
-    let colour = colour_of(came.thread);
-    let a = draw_line(list, n, stencil::ANSWER, colour, from, HUB, y as u32 + 20);
-    let b = add_three(
-        list,
-        a,
-        stencil::SWALLOW,
-        colour,
-        HUB as usize + 11,
-        y as usize + 14,
-    );
-    let c = draw_thread(list, b, colour, from, y as u32 + 20);
-    let d = draw_label(
-        list,
-        c,
-        stencil::CODE_LABEL,
-        came.code as usize,
-        from,
-        HUB,
-        y as usize + 16,
-    );
-    let e = draw_addresses(list, d, stencil::SWALLOWED, came.from, came.from, y);
-    draw_code(list, e, came.code, y)
-}
-
-// The router's own answer to an asker.
-fn draw_reply(list: &mut [usize; 2048], n: usize, to: u16, thread: usize, h: u32) -> usize {
-    let next = draw_line(list, n, stencil::ANSWER, thread, HUB, to, h);
-    draw_head(list, next, thread, HUB, to, h)
-}
-
-// The code of the router's own answer, beside the router's column and beside the step.
-fn draw_reply_code(list: &mut [usize; 2048], n: usize, code: u16, y: u16, base: usize) -> usize {
-    let x = HUB as usize + 40;
-    let next = add_three(list, n, stencil::CODE_LABEL, x, base, code as usize);
-    draw_code(list, next, code, y)
-}
-
-fn draw_turned_words(list: &mut [usize; 2048], n: usize, came: Arrival, y: u16) -> usize {
-    let from = came.from as usize;
-    let to = came.to as usize;
-    add(
-        list,
-        n,
-        [
-            stencil::TURNED,
-            y as usize + 17,
-            from,
-            to,
-            came.kind as usize,
-            0,
-            0,
-            0,
-        ],
-    )
-}
-
-// A question that is turned back: as far as the router, a cross there, and the router's answer.
-fn draw_turned(
-    list: &mut [usize; 2048],
-    n: usize,
-    router: Router,
-    came: Arrival,
-    code: u16,
-    y: u16,
-) -> usize {
-    let from = lane_of(router, came.from);
-    let colour = colour_of(came.thread);
-    let a = draw_line(list, n, stencil::QUESTION, colour, from, HUB, y as u32 + 17);
-    let b = draw_reply(list, a, from, colour, y as u32 + 28);
-    let c = draw_thread(list, b, colour, from, y as u32 + 17);
-    let d = draw_cross(list, c, HUB as usize + 10, y);
-    let e = draw_reply_code(list, d, code, y, y as usize + 13);
-    draw_turned_words(list, e, came, y)
-}
-
-// A wait that ends without its answer: a cross at who was asked, and the router's answer to the asker.
-fn draw_given(
-    list: &mut [usize; 2048],
-    n: usize,
-    router: Router,
-    asker: u16,
-    asked: u16,
-    thread: u8,
-    y: u16,
-) -> usize {
-    let to = lane_of(router, asker);
-    let colour = colour_of(thread);
-    let a = draw_reply(list, n, to, colour, y as u32 + 20);
-    let b = draw_thread(list, a, colour, HUB, y as u32 + 20);
-    let c = draw_cross(list, b, bar_of(router, asked, colour), y);
-    let d = draw_reply_code(list, c, tapa::HANDLER_ERROR, y, y as usize + 16);
-    draw_addresses(list, d, stencil::GIVEN, asker, asked, y)
-}
-
-fn draw_reset(list: &mut [usize; 2048], n: usize, router: Router, handler: u16, y: u16) -> usize {
-    let x = lane_of(router, handler);
-    let next = add_two(list, n, stencil::RING, x as usize + 16, y as usize + 20);
-    draw_addresses(list, next, stencil::RESET, handler, handler, y)
-}
-
-// A refused step is a mark in the margin.
-fn draw_refused(list: &mut [usize; 2048], n: usize, number: u8, y: u16) -> usize {
-    let a = add_two(list, n, stencil::MARGIN_MARK, y as usize + 5, 0);
-    let b = add_two(
-        list,
-        a,
-        stencil::MARGIN_NUMBER,
-        y as usize + 16,
-        number as usize,
-    );
-    add_two(
-        list,
-        b,
-        stencil::REASON,
-        y as usize + 29,
-        names::refusal_name(number),
-    )
-}
-
-fn draw_outcome(
-    list: &mut [usize; 2048],
-    n: usize,
-    router: Router,
-    came: Arrival,
-    outcome: Outcome,
-    y: u16,
-) -> usize {
-    match outcome {
-        Outcome::Passed {
-            asker,
-            asked,
-            kind,
-            thread,
-        } => draw_passed(list, n, router, asker, asked, kind, thread, y),
-        Outcome::Answered {
-            asked,
-            asker,
-            thread,
-            code,
-        } => draw_answered(list, n, router, asked, asker, thread, code, y),
-        Outcome::Swallowed { .. } => draw_swallowed(list, n, router, came, y),
-
-        Outcome::Event => draw_event(list, n, router, came, y),
-        Outcome::Turned { code, .. } => draw_turned(list, n, router, came, code, y),
-        Outcome::Given {
-            asker,
-            asked,
-            thread,
-        } => draw_given(list, n, router, asker, asked, thread, y),
-        Outcome::Reset { handler } => draw_reset(list, n, router, handler, y),
-        Outcome::Refused(refusal) => draw_refused(list, n, tapa::number(refusal), y),
-    }
-}
-
-// A step: how the columns stand after it, then the step itself over them.
-fn draw_step(
-    list: &mut [usize; 2048],
-    n: usize,
-    router: Router,
-    came: Arrival,
-    outcome: Outcome,
-    step: usize,
-    y: u16,
-) -> usize {
-    let a = draw_bands(list, n, router, y);
-    let b = draw_places(list, a, router, y);
-    let c = add_two(list, b, stencil::STEP, y as usize + 17, step);
-    draw_outcome(list, c, router, came, outcome, y)
-}
-
-// ---- the last row
-
-fn draw_totals(list: &mut [usize; 2048], n: usize, sums: Totals, y: u16) -> usize {
-    let a = add(
-        list,
-        n,
-        [
-            stencil::TOTALS,
-            y as usize + 36,
-            sums.accepted,
-            sums.answered,
-            sums.given,
-            0,
-            0,
-            0,
-        ],
-    );
-    add_three(
-        list,
-        a,
-        stencil::MORE_TOTALS,
-        y as usize + 50,
-        sums.waiting,
-        sums.owing,
-    )
-}
-
-fn draw_bad_table(list: &mut [usize; 2048], n: usize, number: u8, y: u16) -> usize {
-    let name = names::refusal_name(number);
-    add_three(
-        list,
-        n,
-        stencil::BAD_TABLE,
-        y as usize + 36,
-        number as usize,
-        name,
-    )
-}
-
-fn draw_item(
-    list: &mut [usize; 2048],
-    n: usize,
-    router: Router,
-    came: Arrival,
-    item: Item,
-    y: u16,
-) -> usize {
-    match item {
-        Item::Came { step, outcome } => draw_step(list, n, router, came, outcome, step, y),
-        Item::Over(sums) => draw_totals(list, n, sums, y),
-        Item::Broken(number) => add_two(list, n, stencil::BROKEN, y as usize + 36, number),
-        Item::Refused(refusal) => draw_bad_table(list, n, tapa::number(refusal), y),
-        Item::TooLong => add_two(list, n, stencil::TOO_LONG, y as usize + 36, 0),
-        Item::Nothing => n,
-    }
-}
-
-// ---- pages
-
-// The head of a column and its line.
-fn draw_column(
-    list: &mut [usize; 2048],
-    n: usize,
-    router: Router,
-    column: usize,
-    cell: u32,
-    end: usize,
-) -> usize {
-    if router.count < column {
-        return n;
-    }
-    let address = (cell / 2 % 65536) as u16;
-    let form = if cell % 2 == 1 {
-        stencil::COLUMN
-    } else {
-        stencil::CLOSED_COLUMN
-    };
-    let x = place_of(router, column) as usize + 16;
-    let next = add_two(list, n, stencil::LANE, x, end);
-    add_three(
-        list,
-        next,
-        form,
-        x + 4,
-        address as usize,
-        names::category_name(address),
-    )
-}
-
-fn draw_columns(list: &mut [usize; 2048], n: usize, router: Router, end: usize) -> usize {
-    let cells = router.cells;
-    let mut next = n;
-    let mut i = 0;
-    while i < 16 {
-        next = draw_column(list, next, router, i + 1, cells[i], end);
-        i += 1;
-    }
-    next
+    246 + above as u16 * 30
 }
 
 // Where the lines of a page end, from its first row on: below its last step.
 fn end_of(row: usize, total: usize) -> u16 {
-    if total <= row {
-        return 266;
-    }
-    let left = total - row - 1;
-    if ROWS < left {
-        return 266 + ROWS as u16 * 30;
-    }
-    266 + left as u16 * 30
+    let steps = total.saturating_sub(row).saturating_sub(1).min(ROWS);
+    266 + steps as u16 * 30
 }
 
 // How high the picture is: a single page ends below its rows.
 fn height_of(total: usize) -> usize {
     let pages = page_count(total) % MOST;
     if pages == 1 {
-        return end_of(0, total) as usize + 96;
+        return usize::from(end_of(0, total)) + 96;
     }
     pages * 1584
 }
 
-fn draw_legend(list: &mut [usize; 2048], n: usize, end: u16) -> usize {
-    let next = add_two(list, n, stencil::REASON, end as usize + 60, stencil::LEGEND);
-    add_two(
-        list,
-        next,
-        stencil::REASON,
-        end as usize + 74,
-        stencil::MORE_LEGEND,
-    )
+// The line of a column.
+fn line_of(x: u16) -> usize
+    ensures { result ≡ x + 16 }
+{
+    usize::from(x) + 16
 }
 
-// A page, up to its rows.
-fn draw_page(
-    list: &mut [usize; 2048],
-    n: usize,
-    router: Router,
-    row: usize,
-    total: usize,
-) -> usize {
-    let page = row / ROWS;
-    let end = end_of(row, total);
-    let a = add_two(list, n, stencil::PAGE, page % MOST * 1584, 0);
-    let b = add_two(
-        list,
-        a,
-        stencil::PAGE_NUMBER,
-        page % MOST + 1,
-        page_count(total),
-    );
-    let c = add_two(
-        list,
-        b,
-        stencil::ROUTER_LANE,
-        HUB as usize + 16,
-        end as usize,
-    );
-    let d = add_two(list, c, stencil::ROUTER, HUB as usize + 20, 0);
-    let e = draw_columns(list, d, router, end as usize);
-    let f = draw_places(list, e, router, 216);
-    draw_legend(list, f, end)
+fn colour_of(thread: u8) -> usize
+    ensures { result < 8 }
+{
+    usize::from(thread % 8)
 }
 
-// The first row of a page begins it, and ends the one before.
-fn draw_break(
-    list: &mut [usize; 2048],
-    n: usize,
-    router: Router,
-    row: usize,
-    total: usize,
-) -> usize {
-    if !is_first(row, total) {
-        return n;
+// ---- a row
+
+// What is drawn at a height of a page: where its forms go, the router that it shows, and its top.
+#[derive(Drop)]
+struct Row<'a> {
+    forms: &'a mut Forms,
+    router: &'a Router,
+    y: u16,
+}
+
+// Between two columns, in the colour of a thread, so far below the top of the row.
+#[derive(Clone, Copy)]
+struct Arrow {
+    colour: usize,
+    from: u16,
+    to: u16,
+    below: u16,
+}
+
+impl Row<'_> {
+    fn add(&mut self, form: &[usize]) {
+        self.forms.add(form);
     }
-    if row == 0 {
-        return draw_page(list, n, router, row, total);
+
+    // So far below the top.
+    fn down(&self, by: u16) -> usize
+        ensures { result ≡ self.now.y + by }
+    {
+        usize::from(self.y) + usize::from(by)
     }
-    let next = add_two(list, n, stencil::PAGE_END, 0, 0);
-    draw_page(list, next, router, row, total)
-}
 
-// ---- what `picture` asks for: how many forms there are now in the list
+    // ---- columns
 
-// A row: what came and what became of it, with the router before and after.
-pub fn draw_row(
-    list: &mut [usize; 2048],
-    came: Arrival,
-    item: Item,
-    before: Router,
-    after: Router,
-    row: usize,
-    total: usize,
-) -> usize {
-    let next = draw_break(list, 0, before, row, total);
-    draw_item(list, next, after, came, item, top_of(row, total))
-}
-
-fn draw_styles(list: &mut [usize; 2048], n: usize) -> usize {
-    let mut next = n;
-    let mut i = 0;
-    while i < stencil::STYLE_COUNT {
-        next = add_two(list, next, stencil::RAW, stencil::STYLES + i, 0);
-        i += 1;
+    // Where the column of a row of the table stands: the fewer there are, the further apart.
+    fn place_of(&self, number: usize) -> u16
+        requires { number < 16 }
+    {
+        let apart = match self.router.count {
+            0..=6 => 100,
+            7..=10 => 64,
+            _ => 40,
+        };
+        HUB + (number as u16 + 1) * apart
     }
-    next
+
+    // Where a handler's column stands. A handler that has no row is shown in the router's.
+    fn lane_of(&self, address: u16) -> u16 {
+        let wanted = u32::from(tapa::handler(address));
+        let mut cells = self.router.cells.iter().take(self.router.count);
+        match cells.position(|&cell| cell / 2 % 65536 == wanted) {
+            Some(number) => self.place_of(number),
+            None => HUB,
+        }
+    }
+
+    // ---- how the columns stand after a step
+
+    // What has to be answered, or is owed. Each thread has its own place within a column, so that bars
+    // stand side by side.
+    fn draw_place(&mut self, place: Place) {
+        let form = if place.owed {
+            stencil::OWED
+        } else {
+            stencil::WAIT
+        };
+        let colour = colour_of(place.thread);
+        let x = usize::from(self.lane_of(place.asked)) + 6 + colour * 3;
+        let y = self.down(20);
+        self.add(&[form, colour, x, y]);
+    }
+
+    fn draw_places(&mut self) {
+        let router = self.router;
+        for &x in router.list.iter().take(router.len) {
+            self.draw_place(router_tests::place_of(x));
+        }
+    }
+
+    // A grey band, where a column's handler is closed.
+    fn draw_bands(&mut self) {
+        let router = self.router;
+        for (number, cell) in router.cells.iter().take(router.count).enumerate() {
+            if cell % 2 == 0 {
+                let x = line_of(self.place_of(number));
+                let y = self.down(20);
+                self.add(&[stencil::SHUT, x, y]);
+            }
+        }
+    }
+
+    // ---- arrows
+
+    fn draw_line(&mut self, form: usize, arrow: Arrow) {
+        let y = self.down(arrow.below);
+        self.add(&[
+            form,
+            arrow.colour,
+            line_of(arrow.from),
+            y,
+            line_of(arrow.to),
+        ]);
+    }
+
+    // The arrow's head: it points away from where the arrow begins.
+    fn draw_head(&mut self, arrow: Arrow) {
+        let form = if arrow.from < arrow.to {
+            stencil::RIGHT_HEAD
+        } else {
+            stencil::LEFT_HEAD
+        };
+        let y = self.down(arrow.below);
+        self.add(&[form, arrow.colour, line_of(arrow.to), y]);
+    }
+
+    // The thread's number in a circle, where the arrow begins.
+    fn draw_thread(&mut self, arrow: Arrow) {
+        let x = line_of(arrow.from);
+        let y = self.down(arrow.below);
+        self.add(&[stencil::THREAD, arrow.colour, x, y]);
+        self.add(&[stencil::THREAD_NUMBER, x, y + 4, arrow.colour]);
+    }
+
+    // A line with its head and its thread, and the type or the code in the middle.
+    fn draw_arrow(&mut self, form: usize, arrow: Arrow, label: usize, value: usize) {
+        self.draw_line(form, arrow);
+        self.draw_head(arrow);
+        self.draw_thread(arrow);
+        self.draw_label(label, value, arrow);
+    }
+
+    fn draw_label(&mut self, form: usize, value: usize, arrow: Arrow) {
+        let x = (usize::from(arrow.from) + usize::from(arrow.to)) / 2 + 16;
+        let y = self.down(16);
+        self.add(&[form, x, y, value]);
+    }
+
+    // A cross over the router's column, or over the bar of a thread.
+    fn draw_cross(&mut self, x: usize) {
+        let y = self.down(14);
+        self.add(&[stencil::CROSS, x, y]);
+    }
+
+    // ---- the words beside a step
+
+    fn draw_addresses(&mut self, form: usize, from: u16, to: u16) {
+        let y = self.down(17);
+        self.add(&[form, y, usize::from(from), usize::from(to)]);
+    }
+
+    fn draw_type(&mut self, kind: u8) {
+        let y = self.down(29);
+        let name = names::type_name(kind);
+        self.add(&[stencil::OF_TYPE, y, usize::from(kind), name]);
+    }
+
+    fn draw_code(&mut self, code: u16) {
+        let y = self.down(29);
+        let name = names::code_name(code);
+        self.add(&[stencil::WITH_CODE, y, usize::from(code), name]);
+    }
+
+    // ---- the step by its outcome
+
+    // A question goes to who is asked.
+    fn draw_question(&mut self, words: usize, asker: u16, asked: u16, kind: u8, thread: u8) {
+        let arrow = Arrow {
+            colour: colour_of(thread),
+            from: self.lane_of(asker),
+            to: self.lane_of(asked),
+            below: 20,
+        };
+        self.draw_arrow(
+            stencil::QUESTION,
+            arrow,
+            stencil::TYPE_LABEL,
+            usize::from(kind),
+        );
+        self.draw_type(kind);
+        self.draw_addresses(words, asker, asked);
+    }
+
+    fn draw_answered(&mut self, asked: u16, asker: u16, thread: u8, code: u16) {
+        let arrow = Arrow {
+            colour: colour_of(thread),
+            from: self.lane_of(asked),
+            to: self.lane_of(asker),
+            below: 20,
+        };
+        self.draw_arrow(
+            stencil::ANSWER,
+            arrow,
+            stencil::CODE_LABEL,
+            usize::from(code),
+        );
+        self.draw_addresses(stencil::ANSWERED, asked, asker);
+        self.draw_code(code);
+    }
+
+    // A reply that comes late ends at the router, in a filled square.
+    fn draw_swallowed(&mut self, asked: u16, thread: u8, code: u16) {
+        let arrow = Arrow {
+            colour: colour_of(thread),
+            from: self.lane_of(asked),
+            to: HUB,
+            below: 20,
+        };
+        let y = self.down(14);
+        self.draw_line(stencil::ANSWER, arrow);
+        self.add(&[stencil::SWALLOW, arrow.colour, usize::from(HUB) + 11, y]);
+        self.draw_thread(arrow);
+        self.draw_label(stencil::CODE_LABEL, usize::from(code), arrow);
+        self.draw_addresses(stencil::SWALLOWED, asked, asked);
+        self.draw_code(code);
+    }
+
+    // The router's own answer to an asker.
+    fn draw_reply(&mut self, arrow: Arrow) {
+        self.draw_line(stencil::ANSWER, arrow);
+        self.draw_head(arrow);
+    }
+
+    // The code of the router's own answer, beside the router's column and beside the step.
+    fn draw_reply_code(&mut self, code: u16, below: u16) {
+        let y = self.down(below);
+        let x = usize::from(HUB) + 40;
+        self.add(&[stencil::CODE_LABEL, x, y, usize::from(code)]);
+        self.draw_code(code);
+    }
+
+    fn draw_turned_words(&mut self, head: Head) {
+        let from = usize::from(head.source);
+        let to = usize::from(head.destination);
+        let y = self.down(17);
+        self.add(&[stencil::TURNED, y, from, to, usize::from(head.kind)]);
+    }
+
+    // A question that is turned back: as far as the router, a cross there, and the router's answer.
+    fn draw_turned(&mut self, head: Head, code: u16) {
+        let colour = colour_of(head.thread);
+        let asker = self.lane_of(head.source);
+        let question = Arrow {
+            colour,
+            from: asker,
+            to: HUB,
+            below: 17,
+        };
+        let answer = Arrow {
+            colour,
+            from: HUB,
+            to: asker,
+            below: 28,
+        };
+        self.draw_line(stencil::QUESTION, question);
+        self.draw_reply(answer);
+        self.draw_thread(question);
+        self.draw_cross(usize::from(HUB) + 10);
+        self.draw_reply_code(code, 13);
+        self.draw_turned_words(head);
+    }
+
+    // A wait that ends without its answer: a cross at who was asked, and the router's answer to the asker.
+    fn draw_given(&mut self, asker: u16, asked: u16, thread: u8) {
+        let arrow = Arrow {
+            colour: colour_of(thread),
+            from: HUB,
+            to: self.lane_of(asker),
+            below: 20,
+        };
+        self.draw_reply(arrow);
+        self.draw_thread(arrow);
+        let bar = usize::from(self.lane_of(asked)) + arrow.colour * 3;
+        self.draw_cross(bar);
+        self.draw_reply_code(tapa::HANDLER_ERROR, 16);
+        self.draw_addresses(stencil::GIVEN, asker, asked);
+    }
+
+    fn draw_reset(&mut self, handler: u16) {
+        let x = line_of(self.lane_of(handler));
+        let y = self.down(20);
+        self.add(&[stencil::RING, x, y]);
+        self.draw_addresses(stencil::RESET, handler, handler);
+    }
+
+    // A refused step is a mark in the margin.
+    fn draw_refused(&mut self, number: u8) {
+        let y = usize::from(self.y);
+        self.add(&[stencil::MARGIN_MARK, y + 5]);
+        self.add(&[stencil::MARGIN_NUMBER, y + 16, usize::from(number)]);
+        self.add(&[stencil::REASON, y + 29, names::refusal_name(number)]);
+    }
+
+    fn draw_outcome(&mut self, came: Arrival, outcome: Outcome) {
+        match (outcome, came) {
+            (
+                Outcome::Passed {
+                    asker,
+                    asked,
+                    kind,
+                    thread,
+                },
+                _,
+            ) => {
+                self.draw_question(stencil::PASSED, asker, asked, kind, thread);
+            }
+            (
+                Outcome::Answered {
+                    asked,
+                    asker,
+                    thread,
+                    code,
+                },
+                _,
+            ) => {
+                self.draw_answered(asked, asker, thread, code);
+            }
+            (
+                Outcome::Swallowed { asked, thread },
+                Arrival::Response {
+                    code: Some(code),
+                    ..
+                },
+            ) => {
+                self.draw_swallowed(asked, thread, code);
+            }
+            (Outcome::Event, Arrival::Command(head)) => {
+                self.draw_question(
+                    stencil::EVENT,
+                    head.source,
+                    head.destination,
+                    head.kind,
+                    head.thread,
+                );
+            }
+            (Outcome::Turned { code, .. }, Arrival::Command(head)) => self.draw_turned(head, code),
+            (
+                Outcome::Given {
+                    asker,
+                    asked,
+                    thread,
+                },
+                _,
+            ) => self.draw_given(asker, asked, thread),
+            (Outcome::Reset { handler }, _) => self.draw_reset(handler),
+            (Outcome::Refused(refusal), _) => self.draw_refused(tapa::number(refusal)),
+            // no other step has such an outcome
+            (Outcome::Swallowed { .. } | Outcome::Event | Outcome::Turned { .. }, _) => {}
+        }
+    }
+
+    // A step: how the columns stand after it, then the step itself over them.
+    fn draw_step(&mut self, came: Arrival, outcome: Outcome, step: usize) {
+        self.draw_bands();
+        self.draw_places();
+        let y = self.down(17);
+        self.add(&[stencil::STEP, y, step]);
+        self.draw_outcome(came, outcome);
+    }
+
+    // ---- the last row
+
+    fn draw_totals(&mut self, sums: Totals) {
+        let y = usize::from(self.y);
+        self.add(&[
+            stencil::TOTALS,
+            y + 36,
+            sums.accepted,
+            sums.answered,
+            sums.given,
+        ]);
+        self.add(&[stencil::MORE_TOTALS, y + 50, sums.waiting, sums.owing]);
+    }
+
+    fn draw_bad_table(&mut self, number: u8) {
+        let y = self.down(36);
+        let name = names::refusal_name(number);
+        self.add(&[stencil::BAD_TABLE, y, usize::from(number), name]);
+    }
+
+    fn draw_item(&mut self, came: Arrival, item: Item) {
+        let last = self.down(36);
+        match item {
+            Item::Came { step, outcome } => self.draw_step(came, outcome, step),
+            Item::Over(sums) => self.draw_totals(sums),
+            Item::Broken(number) => self.add(&[stencil::BROKEN, last, number]),
+            Item::Refused(refusal) => self.draw_bad_table(tapa::number(refusal)),
+            Item::TooLong => self.add(&[stencil::TOO_LONG, last]),
+            Item::Nothing => {}
+        }
+    }
+
+    // ---- pages
+
+    // The heads of the columns and their lines.
+    fn draw_columns(&mut self, end: usize) {
+        let router = self.router;
+        for (number, cell) in router.cells.iter().take(router.count).enumerate() {
+            let address = (cell / 2 % 65536) as u16;
+            let form = if cell % 2 == 1 {
+                stencil::COLUMN
+            } else {
+                stencil::CLOSED_COLUMN
+            };
+            let x = line_of(self.place_of(number));
+            let name = names::category_name(address);
+            self.add(&[stencil::LANE, x, end]);
+            self.add(&[form, x + 4, usize::from(address), name]);
+        }
+    }
+
+    // A page, up to its rows.
+    fn draw_page(&mut self, row: usize, total: usize) {
+        let page = row / ROWS % MOST;
+        let end = usize::from(end_of(row, total));
+        let hub = line_of(HUB);
+        self.add(&[stencil::PAGE, page * 1584]);
+        self.add(&[stencil::PAGE_NUMBER, page + 1, page_count(total)]);
+        self.add(&[stencil::ROUTER_LANE, hub, end]);
+        self.add(&[stencil::ROUTER, hub + 4]);
+        self.draw_columns(end);
+        self.draw_places();
+        self.add(&[stencil::REASON, end + 60, stencil::LEGEND]);
+        self.add(&[stencil::REASON, end + 74, stencil::MORE_LEGEND]);
+    }
 }
 
-// The beginning of the file.
-pub fn draw_opening(list: &mut [usize; 2048], total: usize) -> usize {
-    let height = height_of(total);
-    let a = add_two(list, 0, stencil::OPENING, height, height);
-    let b = add_two(list, a, stencil::TITLE, 0, 0);
-    let c = draw_styles(list, b);
-    add_two(list, c, stencil::PRINTED, height % 100000000 * 3 / 16, 0)
-}
+// ---- what `picture` asks for: the list has the forms of a part, and no others
 
-// The end of the file.
-pub fn draw_closing(list: &mut [usize; 2048]) -> usize {
-    let next = add_two(list, 0, stencil::PAGE_END, 0, 0);
-    add_two(list, next, stencil::CLOSING, 0, 0)
+impl Forms {
+    // A row: what came and what became of it, with the router before and after. The first row of a page
+    // begins it, and ends the one before.
+    pub fn draw_row(
+        &mut self,
+        came: Arrival,
+        item: Item,
+        before: &Router,
+        after: &Router,
+        row: usize,
+        total: usize,
+    ) {
+        self.count = 0;
+        if is_first(row, total) {
+            if 0 < row {
+                self.add(&[stencil::PAGE_END]);
+            }
+            let mut head = Row {
+                forms: self,
+                router: before,
+                y: 216,
+            };
+            head.draw_page(row, total);
+        }
+        let mut strip = Row {
+            forms: self,
+            router: after,
+            y: top_of(row, total),
+        };
+        strip.draw_item(came, item);
+    }
+
+    // The beginning of the file.
+    pub fn draw_opening(&mut self, total: usize) {
+        let height = height_of(total);
+        self.count = 0;
+        self.add(&[stencil::OPENING, height, height]);
+        self.add(&[stencil::TITLE]);
+        for style in stencil::STYLES..stencil::STYLES + stencil::STYLE_COUNT {
+            self.add(&[stencil::RAW, style]);
+        }
+        self.add(&[stencil::PRINTED, height % 100000000 * 3 / 16]);
+    }
+
+    // The end of the file.
+    pub fn draw_closing(&mut self) {
+        self.count = 0;
+        self.add(&[stencil::PAGE_END]);
+        self.add(&[stencil::CLOSING]);
+    }
 }

@@ -9,6 +9,8 @@
 // the last that is proved is that of crate `picture`. `show` writes each part once, in order.
 #![tactic(auto)]
 
+use drawing::Forms;
+
 // Draws the rows of one input; false where they cannot be written.
 fn show_rows(
     rt: HostRuntime,
@@ -16,11 +18,11 @@ fn show_rows(
     input: &[u8],
     total: usize,
     page: &mut [u8; 65536],
-    list: &mut [usize; 2048],
+    forms: &mut Forms,
 ) -> bool {
     let mut session = session_begun::begin(input);
     loop {
-        let filled = picture::fill_page(session, total, input, sheet, page, list);
+        let filled = picture::fill_page(session, total, input, sheet, page, forms);
         let used = filled.used;
         let all = &page[..];
         if !inputs::write(rt, b"ladder", &all[..used]) {
@@ -36,16 +38,16 @@ fn show_rows(
 // The page and the list of forms are made once, and lent.
 fn show(rt: HostRuntime, sheet: &[u8; 65536], input: &[u8]) {
     let mut page = io::large_buffer();
-    let mut list = [0usize; 2048];
+    let mut forms = Forms::new();
     let total = picture::count_rows(session_begun::begin(input), input);
-    let begun = picture::opening(total, sheet, &mut page, &mut list);
+    let begun = picture::opening(total, sheet, &mut page, &mut forms);
     if !inputs::write(rt, b"ladder", &page[..begun]) {
         return;
     }
-    if !show_rows(rt, sheet, input, total, &mut page, &mut list) {
+    if !show_rows(rt, sheet, input, total, &mut page, &mut forms) {
         return;
     }
-    let ended = picture::closing(sheet, &mut page, &mut list);
+    let ended = picture::closing(sheet, &mut page, &mut forms);
     inputs::write(rt, b"ladder", &page[..ended]);
 }
 

@@ -13,6 +13,7 @@
 ghost use Rattle.run.specs.State.{Ready};
 ghost use Rattle.picture.specs.Picture.{Drawn, Added, Part};
 
+use drawing::Forms;
 use run::{Session, Turn};
 
 // How many bytes of a page are used, whether it was full before the end was seen, and the next state.
@@ -46,20 +47,23 @@ fn put_row(
     total: usize,
     input: &[u8],
     sheet: &[u8; 65536],
-    session: Session,
-    turn: Turn,
-    list: &mut [usize; 2048],
+    session: &Session,
+    turn: &Turn,
+    forms: &mut Forms,
 ) -> usize
     ensures { Added sheet.now page.old at page.new result }
 {
-    let cursor = session.cursor;
-    let came = arrivals::arrival_at(input, cursor.at);
-    let item = turn.item;
-    let row = if cursor.step == 0 { 0 } else { cursor.step - 1 };
-    let before = session.router;
-    let after = turn.next.router;
-    let count = drawing::draw_row(list, came, item, before, after, row, total);
-    show_forms::put_list(page, at, sheet, list, count)
+    let came = arrivals::arrival_at(input, session.cursor.at);
+    let row = session.cursor.step.saturating_sub(1);
+    forms.draw_row(
+        came,
+        turn.item,
+        &session.router,
+        &turn.next.router,
+        row,
+        total,
+    );
+    show_forms::put_list(page, at, sheet, &forms.list, forms.count)
 }
 
 // Fills a page with the rows of the next items.
@@ -69,7 +73,7 @@ pub fn fill_page(
     input: &[u8],
     sheet: &[u8; 65536],
     page: &mut [u8; 65536],
-    list: &mut [usize; 2048],
+    forms: &mut Forms,
 ) -> Page
     requires { Ready session }
     ensures { Part input.now session sheet.now page.new result }
@@ -85,7 +89,7 @@ pub fn fill_page(
                 next,
             };
         }
-        used = put_row(page, used, total, input, sheet, next, turn, list);
+        used = put_row(page, used, total, input, sheet, &next, &turn, forms);
         next = turn.next;
     }
     Page {
@@ -102,18 +106,18 @@ pub fn opening(
     total: usize,
     sheet: &[u8; 65536],
     page: &mut [u8; 65536],
-    list: &mut [usize; 2048],
+    forms: &mut Forms,
 ) -> usize
     ensures { Drawn sheet.now page.new result }
 {
-    let begun = drawing::draw_opening(list, total);
-    show_forms::put_list(page, 0, sheet, list, begun)
+    forms.draw_opening(total);
+    show_forms::put_list(page, 0, sheet, &forms.list, forms.count)
 }
 
 // The end of the file.
-pub fn closing(sheet: &[u8; 65536], page: &mut [u8; 65536], list: &mut [usize; 2048]) -> usize
+pub fn closing(sheet: &[u8; 65536], page: &mut [u8; 65536], forms: &mut Forms) -> usize
     ensures { Drawn sheet.now page.new result }
 {
-    let ended = drawing::draw_closing(list);
-    show_forms::put_list(page, 0, sheet, list, ended)
+    forms.draw_closing();
+    show_forms::put_list(page, 0, sheet, &forms.list, forms.count)
 }
