@@ -33,8 +33,8 @@ const HUB: u16 = 324;
 // The forms of a part of the picture, in their order: each is 8 numbers of the list.
 #[derive(Drop)]
 pub struct Forms {
-    pub list: [usize; 2048],
-    pub count: usize,
+    list: [usize; 2048],
+    count: usize,
     ghost bounded: { count ≤ 256 },
 }
 
@@ -59,6 +59,11 @@ impl Forms {
         self.list[at..at + 8].fill(0);
         self.list[at..at + there].copy_from_slice(&form[..there]);
         self.count += 1;
+    }
+
+    // The numbers of the forms.
+    fn drawn(&self) -> &[usize] {
+        &self.list[..self.count * 8]
     }
 }
 
@@ -536,7 +541,7 @@ impl Row<'_> {
     }
 }
 
-// ---- what `picture` asks for: the list has the forms of a part, and no others
+// ---- what `picture` asks for: the forms of a part
 
 impl Forms {
     // A row: what came and what became of it, with the router before and after. The first row of a page
@@ -549,7 +554,7 @@ impl Forms {
         after: &Router,
         row: usize,
         total: usize,
-    ) {
+    ) -> &[usize] {
         self.count = 0;
         if is_first(row, total) {
             if 0 < row {
@@ -568,10 +573,11 @@ impl Forms {
             y: top_of(row, total),
         };
         strip.draw_item(came, item);
+        self.drawn()
     }
 
     // The beginning of the file.
-    pub fn draw_opening(&mut self, total: usize) {
+    pub fn draw_opening(&mut self, total: usize) -> &[usize] {
         let height = height_of(total);
         self.count = 0;
         self.add(&[stencil::OPENING, height, height]);
@@ -580,12 +586,14 @@ impl Forms {
             self.add(&[stencil::RAW, style]);
         }
         self.add(&[stencil::PRINTED, height % 100000000 * 3 / 16]);
+        self.drawn()
     }
 
     // The end of the file.
-    pub fn draw_closing(&mut self) {
+    pub fn draw_closing(&mut self) -> &[usize] {
         self.count = 0;
         self.add(&[stencil::PAGE_END]);
         self.add(&[stencil::CLOSING]);
+        self.drawn()
     }
 }

@@ -55,7 +55,7 @@ fn put_row(
 {
     let came = arrivals::arrival_at(input, session.cursor.at);
     let row = session.cursor.step.saturating_sub(1);
-    forms.draw_row(
+    let drawn = forms.draw_row(
         came,
         turn.item,
         &session.router,
@@ -63,7 +63,7 @@ fn put_row(
         row,
         total,
     );
-    show_forms::put_list(page, at, sheet, &forms.list, forms.count)
+    show_forms::put_list(page, at, sheet, drawn, drawn.len() / 8)
 }
 
 // Fills a page with the rows of the next items.
@@ -110,14 +110,14 @@ pub fn opening(
 ) -> usize
     ensures { Drawn sheet.now page.new result }
 {
-    forms.draw_opening(total);
-    show_forms::put_list(page, 0, sheet, &forms.list, forms.count)
+    let begun = forms.draw_opening(total);
+    show_forms::put_list(page, 0, sheet, begun, begun.len() / 8)
 }
 
 // The end of the file.
 pub fn closing(sheet: &[u8; 65536], page: &mut [u8; 65536], forms: &mut Forms) -> usize
     ensures { Drawn sheet.now page.new result }
 {
-    forms.draw_closing();
-    show_forms::put_list(page, 0, sheet, &forms.list, forms.count)
+    let ended = forms.draw_closing();
+    show_forms::put_list(page, 0, sheet, ended, ended.len() / 8)
 }

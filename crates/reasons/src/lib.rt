@@ -1,39 +1,109 @@
 // Reasons: why a command was turned back, or a step refused, in one line of words.
 //
-// The reason is read off the code or the number, and off the router as it was before the step: who had
+// The reason is read off the code or the refusal, and off the router as it was before the step: who had
 // to answer whom, and who was closed or had no row. Where the code or the refusal says all there is to
 // say, there is no line.
 //
 // As in crate `telling`, nothing is promised of the words.
 #![tactic(auto)]
 
-use arrivals::{Arrival, What};
+use arrivals::Arrival;
+use message::Head;
 use place::Place;
 use router::Router;
+use sentences::Teller;
+use tapa::Refusal;
 
-// What a place of the list is asked.
-#[derive(Clone, Copy)]
-enum Test {
-    KeepsBusy,
-    InTree,
-    Holds,
-    AsksExactly,
-    Asks,
-    Stands,
-    Open,
+// The oldest place that passes a test.
+fn find<F: Fn(u64) -> bool>(router: &Router, passes: F) -> Option<Place>
+    requires { F.IsAlwaysCallable passes }
+{
+    let mut places = router.list.iter().take(router.len);
+    places
+        .find(|&&x| passes(x))
+        .map(|&x| router_tests::place_of(x))
 }
 
-// Whether a place passes a test, for an address and a thread.
-fn passes(x: u64, test: Test, address: u16, thread: u8) -> bool {
+// ---- turned back
+
+// What keeps a handler busy.
+fn tell_taken(out: &mut Teller<'_>, router: &Router, handler: u16, thread: u8) {
+    let Some(place) = find(router, |x| router_tests::on_slot(x, handler, thread)) else {
+        return;
+    };
+    let form = if place.owed {
+        sentences::OWES_REPLY
+    } else {
+        sentences::HAS_TO_ANSWER
+    };
+    let asker = usize::from(place.asker);
+    out.say(&[form, usize::from(handler), asker, usize::from(place.thread)]);
+}
+
+// Why a handler could not be asked: by itself, by its own thread, or while it is busy.
+fn tell_busy(out: &mut Teller<'_>, router: &Router, head: Head) {
+    let handler = tapa::handler(head.destination);
+    let thread = head.thread;
+    if handler == tapa::handler(head.source) {
+        out.say(&[sentences::ASKS_ITSELF, usize::from(handler)]);
+        return;
+    }
+    match find(router, |x| router_tests::has_on(x, thread, handler)) {
+        Some(_) => out.say(&[sentences::IN_THREAD, usize::from(handler)]),
+        None => tell_taken(out, router, handler, thread),
+    }
+}
+
+// Why an asker may not ask: the thread is another's, or nobody's.
+fn tell_turn(out: &mut Teller<'_>, router: &Router, head: Head) {
+    let thread = head.thread;
+    match find(router, |x| router_tests::open_on(x, thread)) {
+        Some(root) => {
+            let asker = usize::from(root.asker);
+            out.say(&[sentences::NOT_ITS_TURN, asker, usize::from(head.source)]);
+        }
+        None => out.say(&[sentences::NO_THREAD]),
+    }
+}
+
+// A handler is closed. Of the event queue it is said that it stays so: it does not know Open Handler.
+fn tell_closed(out: &mut Teller<'_>, handler: u16) {
+    out.say(&[sentences::IS_CLOSED, usize::from(handler)]);
+    if handler == tapa::EVENT_HANDLER {
+        out.say(&[sentences::QUEUE_STAYS_CLOSED]);
+    }
+}
+
+// Why a command was turned back, by its code.
+pub fn tell_turned(out: &mut Teller<'_>, router: &Router, head: Head, code: u16) {
+    let handler = tapa::handler(head.destination);
+    let name = names::category_name(head.destination);
+    match code {
+        tapa::INVALID_DESTINATION => out.say(&[sentences::NO_SUCH, usize::from(handler)]),
+        tapa::UNSUPPORTED_OPERATION => {
+            out.say(&[sentences::NOT_KNOWN, name, usize::from(handler)]);
+        }
+        tapa::MUST_BE_OPENED => tell_closed(out, handler),
+        tapa::HANDLER_ERROR => tell_turn(out, router, head),
+        tapa::HANDLER_BUSY => tell_busy(out, router, head),
+        _ => {}
+    }
+}
+
+// ---- refused
+
+// The source of a message, or the address of a replaced call, has no row.
+fn tell_unlisted(out: &mut Teller<'_>, address: u16) {
     let handler = tapa::handler(address);
-    match test {
-        Test::KeepsBusy => router_tests::on_slot(x, handler, thread),
-        Test::InTree => router_tests::has_on(x, thread, handler),
-        Test::Holds => router_tests::holds_on(x, thread, handler),
-        Test::AsksExactly => router_tests::asks_exactly(x, address, thread),
-        Test::Asks => asks(x, handler, thread),
-        Test::Stands => router_tests::has_open(x, handler),
-        Test::Open => router_tests::open_on(x, thread),
+    out.say(&[sentences::NO_SUCH, usize::from(handler)]);
+}
+
+// A handler that waits for somebody itself on the thread.
+fn tell_waits(out: &mut Teller<'_>, router: &Router, address: u16, thread: u8) {
+    let handler = tapa::handler(address);
+    if let Some(place) = find(router, |x| router_tests::holds_on(x, thread, handler)) {
+        let asked = usize::from(place.asked);
+        out.say(&[sentences::STILL_WAITS, usize::from(address), asked]);
     }
 }
 
@@ -43,264 +113,87 @@ fn asks(x: u64, handler: u16, thread: u8) -> bool {
     router_tests::open_on(x, thread) && tapa::handler(place.asked) == handler
 }
 
-// The number of the oldest place that passes a test; 48 where none does.
-fn find(router: Router, test: Test, address: u16, thread: u8) -> usize {
-    let list = router.list;
-    let mut i = 0;
-    while i < 48 {
-        if i < router.len && passes(list[i], test, address, thread) {
-            return i;
-        }
-        i += 1;
-    }
-    48
-}
-
-// The place with a number; past the list it is one of zeros.
-fn place_at(router: Router, i: usize) -> Place {
-    let list = router.list;
-    if i < 48 {
-        return router_tests::place_of(list[i]);
-    }
-    router_tests::place_of(0)
-}
-
-// ---- turned back
-
-// What keeps a handler busy.
-fn tell_taken(
-    words: &mut [u8],
-    at: usize,
-    sheet: &[u8],
-    router: Router,
-    handler: u16,
-    thread: u8,
-) -> usize {
-    let place = place_at(router, find(router, Test::KeepsBusy, handler, thread));
-    let form = if place.owed {
-        sentences::OWES_REPLY
-    } else {
-        sentences::HAS_TO_ANSWER
-    };
-    let values = [
-        form,
-        handler as usize,
-        place.asker as usize,
-        place.thread as usize,
-    ];
-    sentences::say(words, at, sheet, &values)
-}
-
-// Why a handler could not be asked: by itself, by its own thread, or while it is busy.
-fn tell_busy(words: &mut [u8], at: usize, sheet: &[u8], router: Router, came: Arrival) -> usize {
-    let handler = tapa::handler(came.to);
-    if handler == tapa::handler(came.from) {
-        return sentences::say(
-            words,
-            at,
-            sheet,
-            &[sentences::ASKS_ITSELF, handler as usize],
-        );
-    }
-    if find(router, Test::InTree, handler, came.thread) < 48 {
-        return sentences::say(words, at, sheet, &[sentences::IN_THREAD, handler as usize]);
-    }
-    tell_taken(words, at, sheet, router, handler, came.thread)
-}
-
-// Why an asker may not ask: the thread is another's, or nobody's.
-fn tell_turn(words: &mut [u8], at: usize, sheet: &[u8], router: Router, came: Arrival) -> usize {
-    let first = find(router, Test::Open, came.from, came.thread);
-    if 48 <= first {
-        return sentences::say(words, at, sheet, &[sentences::NO_THREAD]);
-    }
-    let root = place_at(router, first);
-    let values = [
-        sentences::NOT_ITS_TURN,
-        root.asker as usize,
-        came.from as usize,
-    ];
-    sentences::say(words, at, sheet, &values)
-}
-
-// A handler is closed. Of the event queue it is said that it stays so: it does not know Open Handler.
-fn tell_closed(words: &mut [u8], at: usize, sheet: &[u8], handler: u16) -> usize {
-    let next = sentences::say(words, at, sheet, &[sentences::IS_CLOSED, handler as usize]);
-    if handler == tapa::EVENT_HANDLER {
-        return sentences::say(words, next, sheet, &[sentences::QUEUE_STAYS_CLOSED]);
-    }
-    next
-}
-
-// Why a command was turned back, by its code.
-pub fn tell_turned(
-    words: &mut [u8],
-    at: usize,
-    sheet: &[u8],
-    router: Router,
-    came: Arrival,
-    code: u16,
-) -> usize {
-    let handler = tapa::handler(came.to) as usize;
-    let name = names::category_name(came.to);
-    match code {
-        tapa::INVALID_DESTINATION => sentences::say(
-            words,
-            at,
-            sheet,
-            &[sentences::NO_SUCH, handler],
-        ),
-        tapa::UNSUPPORTED_OPERATION => sentences::say(
-            words,
-            at,
-            sheet,
-            &[sentences::NOT_KNOWN, name, handler],
-        ),
-        tapa::MUST_BE_OPENED => tell_closed(words, at, sheet, tapa::handler(came.to)),
-        tapa::HANDLER_ERROR => tell_turn(words, at, sheet, router, came),
-        tapa::HANDLER_BUSY => tell_busy(words, at, sheet, router, came),
-        _ => at,
-    }
-}
-
-// ---- refused
-
-// 4: the source of a message, or the address of a replaced call, has no row.
-fn tell_unlisted(words: &mut [u8], at: usize, sheet: &[u8], came: Arrival) -> usize {
-    let what = came.what;
-    let address = match what {
-        What::Replaced => came.to,
-        _ => came.from,
-    };
-    sentences::say(
-        words,
-        at,
-        sheet,
-        &[sentences::NO_SUCH, tapa::handler(address) as usize],
-    )
-}
-
-// A handler that waits for somebody itself on the thread.
-fn tell_waits(
-    words: &mut [u8],
-    at: usize,
-    sheet: &[u8],
-    router: Router,
-    address: u16,
-    thread: u8,
-) -> usize {
-    let place = place_at(router, find(router, Test::Holds, address, thread));
-    let values = [
-        sentences::STILL_WAITS,
-        address as usize,
-        place.asked as usize,
-    ];
-    sentences::say(words, at, sheet, &values)
-}
-
 // Nobody waits for exactly this address on the thread; somebody may for its handler's other one.
-fn tell_unasked(
-    words: &mut [u8],
-    at: usize,
-    sheet: &[u8],
-    router: Router,
-    address: u16,
-    thread: u8,
-) -> usize {
-    let i = find(router, Test::Asks, address, thread);
-    if 48 <= i {
-        return sentences::say(
-            words,
-            at,
-            sheet,
-            &[sentences::NOBODY_WAITS, address as usize],
-        );
-    }
-    let place = place_at(router, i);
-    let values = [sentences::ASKED_AS, place.asked as usize, address as usize];
-    sentences::say(words, at, sheet, &values)
-}
-
-// 7: nobody waits for the address; or somebody does, and it waits for somebody itself.
-fn tell_stray(
-    words: &mut [u8],
-    at: usize,
-    sheet: &[u8],
-    router: Router,
-    address: u16,
-    thread: u8,
-) -> usize {
-    if find(router, Test::AsksExactly, address, thread) < 48 {
-        return tell_waits(words, at, sheet, router, address, thread);
-    }
-    tell_unasked(words, at, sheet, router, address, thread)
-}
-
-// 8: who asked.
-fn tell_asker(words: &mut [u8], at: usize, sheet: &[u8], router: Router, came: Arrival) -> usize {
-    let place = place_at(
-        router,
-        find(router, Test::AsksExactly, came.from, came.thread),
-    );
-    sentences::say(
-        words,
-        at,
-        sheet,
-        &[sentences::ASKED_BY, place.asker as usize],
-    )
-}
-
-// 10: the event queue has no row, or is closed.
-fn tell_no_queue(words: &mut [u8], at: usize, sheet: &[u8], router: Router) -> usize {
-    let cells = router.cells;
-    let count = router.count;
-    let queue = tapa::EVENT_HANDLER;
-    if count <= 16 && router_rows::is_listed(&cells, count, queue) {
-        return tell_closed(words, at, sheet, queue);
-    }
-    sentences::say(words, at, sheet, &[sentences::NO_SUCH, queue as usize])
-}
-
-// 16: the open question that a device stands in.
-fn tell_stands(words: &mut [u8], at: usize, sheet: &[u8], router: Router, address: u16) -> usize {
+fn tell_unasked(out: &mut Teller<'_>, router: &Router, address: u16, thread: u8) {
     let handler = tapa::handler(address);
-    let place = place_at(router, find(router, Test::Stands, handler, 0));
-    let asker = place.asker as usize;
-    let asked = place.asked as usize;
-    let thread = place.thread as usize;
-    if tapa::handler(place.asked) == handler {
-        return sentences::say(
-            words,
-            at,
-            sheet,
-            &[sentences::HAS_QUESTION, asked, asker, thread],
-        );
+    match find(router, |x| asks(x, handler, thread)) {
+        Some(place) => {
+            let asked = usize::from(place.asked);
+            out.say(&[sentences::ASKED_AS, asked, usize::from(address)]);
+        }
+        None => out.say(&[sentences::NOBODY_WAITS, usize::from(address)]),
     }
-    sentences::say(
-        words,
-        at,
-        sheet,
-        &[sentences::WAITS_FOR, asker, asked, thread],
-    )
 }
 
-// Why a step was refused, by its number.
-pub fn tell_refused(
-    words: &mut [u8],
-    at: usize,
-    sheet: &[u8],
-    router: Router,
-    came: Arrival,
-    number: u8,
-) -> usize {
-    match number {
-        4 => tell_unlisted(words, at, sheet, came),
-        7 => tell_stray(words, at, sheet, router, came.from, came.thread),
-        8 => tell_asker(words, at, sheet, router, came),
-        10 => tell_no_queue(words, at, sheet, router),
-        14 => tell_unasked(words, at, sheet, router, came.to, came.thread),
-        16 => tell_stands(words, at, sheet, router, came.to),
-        20 => tell_waits(words, at, sheet, router, came.to, came.thread),
-        _ => at,
+// A stray response: nobody waits for the address; or somebody does, and it waits for somebody itself.
+fn tell_stray(out: &mut Teller<'_>, router: &Router, address: u16, thread: u8) {
+    match find(router, |x| router_tests::asks_exactly(x, address, thread)) {
+        Some(_) => tell_waits(out, router, address, thread),
+        None => tell_unasked(out, router, address, thread),
+    }
+}
+
+// Who asked.
+fn tell_asker(out: &mut Teller<'_>, router: &Router, address: u16, thread: u8) {
+    if let Some(place) = find(router, |x| router_tests::asks_exactly(x, address, thread)) {
+        out.say(&[sentences::ASKED_BY, usize::from(place.asker)]);
+    }
+}
+
+// The event queue has no row, or is closed.
+fn tell_no_queue(out: &mut Teller<'_>, router: &Router) {
+    let queue = tapa::EVENT_HANDLER;
+    if router.count <= 16 && router_rows::is_listed(&router.cells, router.count, queue) {
+        tell_closed(out, queue);
+    } else {
+        tell_unlisted(out, queue);
+    }
+}
+
+// The open question that a device stands in.
+fn tell_stands(out: &mut Teller<'_>, router: &Router, address: u16) {
+    let handler = tapa::handler(address);
+    let Some(place) = find(router, |x| router_tests::has_open(x, handler)) else {
+        return;
+    };
+    let asker = usize::from(place.asker);
+    let asked = usize::from(place.asked);
+    let thread = usize::from(place.thread);
+    if tapa::handler(place.asked) == handler {
+        out.say(&[sentences::HAS_QUESTION, asked, asker, thread]);
+    } else {
+        out.say(&[sentences::WAITS_FOR, asker, asked, thread]);
+    }
+}
+
+// Why a message was refused.
+fn tell_message(out: &mut Teller<'_>, router: &Router, head: Head, refusal: Refusal) {
+    let source = head.source;
+    match refusal {
+        Refusal::NotInTable => tell_unlisted(out, source),
+        Refusal::StrayResponse => tell_stray(out, router, source, head.thread),
+        Refusal::WrongAsker => tell_asker(out, router, source, head.thread),
+        Refusal::EventCannotBeTaken => tell_no_queue(out, router),
+        _ => {}
+    }
+}
+
+// Why a step was refused.
+pub fn tell_refused(out: &mut Teller<'_>, router: &Router, came: Arrival, refusal: Refusal) {
+    match (came, refusal) {
+        (Arrival::Command(head) | Arrival::Response { head, .. }, _) => {
+            tell_message(out, router, head, refusal);
+        }
+        (Arrival::GiveUp { thread, address }, Refusal::NothingToGiveUp) => {
+            tell_unasked(out, router, address, thread);
+        }
+        (Arrival::GiveUp { thread, address }, Refusal::HoldsAQuestion) => {
+            tell_waits(out, router, address, thread);
+        }
+        (Arrival::Replaced { address }, Refusal::NotInTable) => tell_unlisted(out, address),
+        (Arrival::Replaced { address }, Refusal::StandsInAWait) => {
+            tell_stands(out, router, address);
+        }
+        _ => {}
     }
 }

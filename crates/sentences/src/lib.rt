@@ -5,6 +5,10 @@
 // among them.
 #![tactic(auto)]
 
+ghost use Rattle.std.specs.Prelude.{◌≡◌};
+ghost use Rattle.text.specs.Text.{pen, puts};
+ghost use Rattle.forms.specs.Forms.{form_text};
+
 pub const ENCIPHERED: usize = names::FREE;
 
 pub const OPEN_ROW: usize = names::FREE + 1;
@@ -207,8 +211,53 @@ pub fn write_sheet(sheet: &mut [u8]) {
     write_ends(sheet);
 }
 
-// Writes a sentence that is a line of its own.
-pub fn say(words: &mut [u8], at: usize, sheet: &[u8], form: &[usize]) -> usize {
-    let next = show_forms::put(words, at, sheet, form);
-    text::put(words, next, b'\n')
+// ---- what is said
+
+// The words that are said, one after the other, and the sheet that has them. Where the words are full,
+// nothing more is said.
+#[derive(Drop)]
+pub struct Teller<'a> {
+    words: &'a mut [u8],
+    at: usize,
+    sheet: &'a [u8],
+}
+
+impl<'a> Teller<'a> {
+    // Nothing is said yet.
+    pub fn new(words: &'a mut [u8], sheet: &'a [u8]) -> Teller<'a>
+        ensures { result.at ≡ 0 }
+    {
+        Teller {
+            words,
+            at: 0,
+            sheet,
+        }
+    }
+}
+
+impl Teller<'_> {
+    // A part of a line.
+    pub fn put(&mut self, form: &[usize])
+        ensures { pen self.new.words.now self.new.at ≡ puts (pen self.old.words.now self.old.at) (form_text self.old.sheet.now form.now) }
+    {
+        self.at = show_forms::put(self.words, self.at, self.sheet, form);
+    }
+
+    // The end of a line.
+    pub fn end_line(&mut self) {
+        self.at = text::put(self.words, self.at, b'\n');
+    }
+
+    // A sentence that is a line of its own.
+    pub fn say(&mut self, form: &[usize]) {
+        self.put(form);
+        self.end_line();
+    }
+
+    // How much has been said.
+    pub fn place(&self) -> usize
+        ensures { result ≡ self.now.at }
+    {
+        self.at
+    }
 }

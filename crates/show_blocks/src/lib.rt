@@ -35,19 +35,22 @@ fn put_block(
     at: usize,
     input: &[u8],
     sheet: &[u8; 65536],
-    session: Session,
-    turn: Turn,
+    session: &Session,
+    turn: &Turn,
     words: &mut [u8; 8192],
 ) -> usize
-    ensures { Put turn page.old at page.new result }
+    ensures { Put turn.now page.old at page.new result }
 {
-    let arrival = arrivals::arrival_at(input, session.cursor.at);
-    let item = turn.item;
-    let reply = turn.reply;
-    let line = transcript::put_line(page, at, item, &reply);
-    let before = session.router;
-    let after = turn.next.router;
-    let said = telling::tell(words, sheet, arrival, item, before, after);
+    let came = arrivals::arrival_at(input, session.cursor.at);
+    let line = transcript::put_line(page, at, turn.item, &turn.reply);
+    let said = telling::tell(
+        words,
+        sheet,
+        came,
+        turn.item,
+        &session.router,
+        &turn.next.router,
+    );
     show_notes::note(page, line, words, said)
 }
 
@@ -73,7 +76,7 @@ pub fn fill_page(
                 next,
             };
         }
-        used = put_block(page, used, input, sheet, next, turn, words);
+        used = put_block(page, used, input, sheet, &next, &turn, words);
         next = turn.next;
     }
     Page {

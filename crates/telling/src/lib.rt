@@ -8,514 +8,296 @@
 // that they cannot be taken for lines of the transcript.
 #![tactic(auto)]
 
-use arrivals::{Arrival, What};
+use arrivals::Arrival;
 use fields::NextRow;
+use message::Head;
 use place::Place;
 use router::Router;
 use rules::Outcome;
 use run::{Item, Totals};
+use sentences::Teller;
 use tapa::Refusal;
 
 // ---- parts
 
-// A sentence about one address.
-fn say_of(words: &mut [u8], at: usize, sheet: &[u8], form: usize, address: u16) -> usize {
-    sentences::say(words, at, sheet, &[form, address as usize])
-}
-
 // What stands after an address that asks for an enciphered response.
 fn mark(address: u16) -> usize {
     if address == tapa::handler(address) {
-        return names::NOTHING;
+        names::NOTHING
+    } else {
+        sentences::ENCIPHERED
     }
-    sentences::ENCIPHERED
 }
 
 // How much data there is, and the end of the line.
-fn say_data(words: &mut [u8], at: usize, sheet: &[u8], length: usize) -> usize {
-    if length == 0 {
-        return sentences::say(words, at, sheet, &[sentences::NO_DATA]);
+fn say_data(out: &mut Teller<'_>, length: usize) {
+    match length {
+        0 => out.say(&[sentences::NO_DATA]),
+        1 => out.say(&[sentences::ONE_BYTE]),
+        _ => out.say(&[sentences::BYTES, length]),
     }
-    if length == 1 {
-        return sentences::say(words, at, sheet, &[sentences::ONE_BYTE]);
-    }
-    sentences::say(words, at, sheet, &[sentences::BYTES, length])
 }
 
 // Of the event queue: that it stays closed.
-fn say_if_queue(words: &mut [u8], at: usize, sheet: &[u8], handler: u16) -> usize {
+fn say_if_queue(out: &mut Teller<'_>, handler: u16) {
     if handler == tapa::EVENT_HANDLER {
-        return sentences::say(words, at, sheet, &[sentences::QUEUE_STAYS_CLOSED]);
+        out.say(&[sentences::QUEUE_STAYS_CLOSED]);
     }
-    at
 }
 
 // ---- what came
 
-// Who says something to whom: the sentence and its first seven values.
-fn put_two(
-    words: &mut [u8],
-    at: usize,
-    sheet: &[u8],
-    form: usize,
-    came: Arrival,
-    a: usize,
-    b: usize,
-) -> usize {
-    let values = [
+// Who says something to whom: the sentence, its first seven values, and two that it has besides.
+fn put_message(out: &mut Teller<'_>, form: usize, head: Head, a: usize, b: usize) {
+    out.put(&[
         form,
-        came.thread as usize,
-        names::category_name(came.from),
-        came.from as usize,
-        mark(came.from),
-        names::category_name(came.to),
-        came.to as usize,
-        mark(came.to),
+        usize::from(head.thread),
+        names::category_name(head.source),
+        usize::from(head.source),
+        mark(head.source),
+        names::category_name(head.destination),
+        usize::from(head.destination),
+        mark(head.destination),
         a,
         b,
-    ];
-    show_forms::put(words, at, sheet, &values)
+    ]);
 }
 
-fn is_report(came: Arrival) -> bool {
-    came.kind == tapa::ADD_EVENT && tapa::handler(came.to) == tapa::EVENT_HANDLER
-}
-
-fn tell_command(words: &mut [u8], at: usize, sheet: &[u8], came: Arrival) -> usize {
-    let form = if is_report(came) {
+fn tell_command(out: &mut Teller<'_>, head: Head) {
+    let form = if ruling::is_add_event(head) {
         sentences::REPORTS
     } else {
         sentences::ASKS
     };
-    let name = names::type_name(came.kind);
-    let next = put_two(words, at, sheet, form, came, name, came.kind as usize);
-    say_data(words, next, sheet, came.length)
+    let name = names::type_name(head.kind);
+    put_message(out, form, head, name, usize::from(head.kind));
+    say_data(out, head.length);
 }
 
 // The code is not counted with the data.
-fn tell_response(words: &mut [u8], at: usize, sheet: &[u8], came: Arrival) -> usize {
-    let name = names::code_name(came.code);
-    let next = put_two(
-        words,
-        at,
-        sheet,
-        sentences::ANSWERS,
-        came,
-        came.code as usize,
-        name,
-    );
-    let length = if came.length < 2 { 0 } else { came.length - 2 };
-    say_data(words, next, sheet, length)
-}
-
-fn tell_bare_response(words: &mut [u8], at: usize, sheet: &[u8], came: Arrival) -> usize {
-    let next = put_two(words, at, sheet, sentences::ANSWERS_BARE, came, 0, 0);
-    say_data(words, next, sheet, came.length)
-}
-
-// A message whose length does not agree: how much data it announces, and how much came.
-fn tell_torn(words: &mut [u8], at: usize, sheet: &[u8], came: Arrival) -> usize {
-    let announced = came.code as usize;
-    let next = put_two(
-        words,
-        at,
-        sheet,
-        sentences::TORN,
-        came,
-        announced,
-        came.length,
-    );
-    text::put(words, next, b'\n')
+fn tell_response(out: &mut Teller<'_>, head: Head, code: Option<u16>) {
+    match code {
+        Some(code) => {
+            let name = names::code_name(code);
+            put_message(out, sentences::ANSWERS, head, usize::from(code), name);
+            say_data(out, head.length.saturating_sub(2));
+        }
+        None => {
+            put_message(out, sentences::ANSWERS_BARE, head, 0, 0);
+            say_data(out, head.length);
+        }
+    }
 }
 
 // What came.
-fn tell_arrival(words: &mut [u8], at: usize, sheet: &[u8], came: Arrival) -> usize {
-    let name = names::category_name(came.to);
-    let to = came.to as usize;
-    let what = came.what;
-    match what {
-        What::Unread => sentences::say(words, at, sheet, &[sentences::UNREAD, came.length]),
-        What::Torn => tell_torn(words, at, sheet, came),
-        What::Command => tell_command(words, at, sheet, came),
-        What::Response => tell_response(words, at, sheet, came),
-        What::Uncoded => tell_bare_response(words, at, sheet, came),
-        What::GiveUp => sentences::say(
-            words,
-            at,
-            sheet,
-            &[
+fn tell_arrival(out: &mut Teller<'_>, came: Arrival) {
+    match came {
+        Arrival::Unread { length } => out.say(&[sentences::UNREAD, length]),
+        Arrival::Torn { head, came } => {
+            put_message(out, sentences::TORN, head, head.length, came);
+            out.end_line();
+        }
+        Arrival::Command(head) => tell_command(out, head),
+        Arrival::Response { head, code } => tell_response(out, head, code),
+        Arrival::GiveUp { thread, address } => {
+            let name = names::category_name(address);
+            let thread = usize::from(thread);
+            out.say(&[
                 sentences::GIVES_UP,
-                came.thread as usize,
+                thread,
                 name,
-                to,
-                mark(came.to),
-            ],
-        ),
-        What::Replaced => sentences::say(
-            words,
-            at,
-            sheet,
-            &[sentences::REPLACES, name, to, mark(came.to)],
-        ),
-        What::Nothing => at,
+                usize::from(address),
+                mark(address),
+            ]);
+        }
+        Arrival::Replaced { address } => {
+            let name = names::category_name(address);
+            out.say(&[
+                sentences::REPLACES,
+                name,
+                usize::from(address),
+                mark(address),
+            ]);
+        }
+        Arrival::Nothing => {}
     }
 }
 
 // ---- how a thread stands
 
-// The place after some text, and whether the text has an entry yet.
-#[derive(Clone, Copy)]
-struct Listed {
-    at: usize,
-    any: bool,
-}
-
-// An open question of a thread, the first of its line or one more.
-fn put_open(words: &mut [u8], listed: Listed, sheet: &[u8], place: Place) -> usize {
-    let asker = place.asker as usize;
-    let asked = place.asked as usize;
-    let a = mark(place.asker);
-    let b = mark(place.asked);
-    if listed.any {
-        return show_forms::put(
-            words,
-            listed.at,
-            sheet,
-            &[sentences::OPEN_MORE, asker, a, asked, b],
-        );
-    }
-    let thread = place.thread as usize;
+// An open question of a thread, or an owed reply: the first of its line, or one more.
+fn put_place(out: &mut Teller<'_>, place: Place, first: bool) {
+    let thread = usize::from(place.thread);
     let name = names::category_name(place.asker);
-    show_forms::put(
-        words,
-        listed.at,
-        sheet,
-        &[sentences::OPEN_FIRST, thread, name, asker, a, asked, b],
-    )
-}
-
-// An owed reply of a thread, the first of its line or one more.
-fn put_owed(words: &mut [u8], listed: Listed, sheet: &[u8], place: Place) -> usize {
-    let asker = place.asker as usize;
-    let asked = place.asked as usize;
+    let asker = usize::from(place.asker);
+    let asked = usize::from(place.asked);
     let a = mark(place.asker);
     let b = mark(place.asked);
-    if listed.any {
-        return show_forms::put(
-            words,
-            listed.at,
-            sheet,
-            &[sentences::OWED_MORE, asked, b, asker, a],
-        );
+    match (place.owed, first) {
+        (false, true) => out.put(&[sentences::OPEN_FIRST, thread, name, asker, a, asked, b]),
+        (false, false) => out.put(&[sentences::OPEN_MORE, asker, a, asked, b]),
+        (true, true) => out.put(&[sentences::OWED_FIRST, thread, asked, b, asker, a]),
+        (true, false) => out.put(&[sentences::OWED_MORE, asked, b, asker, a]),
     }
-    show_forms::put(
-        words,
-        listed.at,
-        sheet,
-        &[
-            sentences::OWED_FIRST,
-            place.thread as usize,
-            asked,
-            b,
-            asker,
-            a,
-        ],
-    )
 }
 
-// One place more, where it is one that the line is about.
-fn put_place(words: &mut [u8], listed: Listed, sheet: &[u8], place: Place, wanted: bool) -> Listed {
-    if !wanted {
-        return listed;
+// The open questions of a thread, or its owed replies, oldest first, in one line; whether there are any.
+fn tell_places(out: &mut Teller<'_>, router: &Router, thread: u8, owed: bool) -> bool {
+    let mut any = false;
+    for &x in router.list.iter().take(router.len) {
+        let place = router_tests::place_of(x);
+        if place.thread == thread && place.owed == owed {
+            put_place(out, place, !any);
+            any = true;
+        }
     }
-    let at = if place.owed {
-        put_owed(words, listed, sheet, place)
-    } else {
-        put_open(words, listed, sheet, place)
-    };
-    Listed { at, any: true }
+    if any {
+        out.end_line();
+    }
+    any
 }
 
-// The open questions of a thread, or its owed replies, oldest first, in one line.
-fn put_places(
-    words: &mut [u8],
-    at: usize,
-    sheet: &[u8],
-    router: Router,
-    thread: u8,
-    owed: bool,
-) -> Listed {
-    let list = router.list;
-    let mut listed = Listed { at, any: false };
-    let mut i = 0;
-    while i < 48 {
-        let place = router_tests::place_of(list[i]);
-        let wanted = i < router.len && place.thread == thread && place.owed == owed;
-        listed = put_place(words, listed, sheet, place, wanted);
-        i += 1;
+// How the thread of a step stands.
+fn tell_thread(out: &mut Teller<'_>, router: &Router, thread: u8) {
+    if !tell_places(out, router, thread, false) {
+        out.say(&[sentences::NONE_OPEN, usize::from(thread)]);
     }
-    listed
-}
-
-// The line of a thread's owed replies, where there are any.
-fn tell_owed(words: &mut [u8], at: usize, sheet: &[u8], router: Router, thread: u8) -> usize {
-    let owed = put_places(words, at, sheet, router, thread, true);
-    if owed.any {
-        return text::put(words, owed.at, b'\n');
-    }
-    at
-}
-
-// The line of a thread's open questions. Where there are none, it says so, or is left out.
-fn tell_open(
-    words: &mut [u8],
-    at: usize,
-    sheet: &[u8],
-    router: Router,
-    thread: u8,
-    bare: bool,
-) -> usize {
-    let open = put_places(words, at, sheet, router, thread, false);
-    if open.any {
-        return text::put(words, open.at, b'\n');
-    }
-    if bare {
-        return sentences::say(words, at, sheet, &[sentences::NONE_OPEN, thread as usize]);
-    }
-    at
-}
-
-// How a thread stands.
-fn tell_thread(
-    words: &mut [u8],
-    at: usize,
-    sheet: &[u8],
-    router: Router,
-    thread: u8,
-    bare: bool,
-) -> usize {
-    let next = tell_open(words, at, sheet, router, thread, bare);
-    tell_owed(words, next, sheet, router, thread)
+    tell_places(out, router, thread, true);
 }
 
 // What each thread has at the end; one that has nothing is not named.
-fn tell_all_threads(words: &mut [u8], at: usize, sheet: &[u8], router: Router) -> usize {
-    let mut next = at;
-    let mut thread = 0;
-    while thread < 8 {
-        next = tell_thread(words, next, sheet, router, thread, false);
-        thread += 1;
+fn tell_all_threads(out: &mut Teller<'_>, router: &Router) {
+    for thread in 0..8 {
+        tell_places(out, router, thread, false);
+        tell_places(out, router, thread, true);
     }
-    next
 }
 
 // ---- what became of it
 
-fn tell_turned(
-    words: &mut [u8],
-    at: usize,
-    sheet: &[u8],
-    came: Arrival,
-    code: u16,
-    before: Router,
-) -> usize {
-    let form = [
-        sentences::TURNED,
-        came.from as usize,
-        code as usize,
-        names::code_name(code),
-    ];
-    let next = sentences::say(words, at, sheet, &form);
-    reasons::tell_turned(words, next, sheet, before, came, code)
+fn tell_turned(out: &mut Teller<'_>, head: Head, code: u16, before: &Router) {
+    let name = names::code_name(code);
+    let asker = usize::from(head.source);
+    out.say(&[sentences::TURNED, asker, usize::from(code), name]);
+    reasons::tell_turned(out, before, head, code);
 }
 
-fn tell_given(words: &mut [u8], at: usize, sheet: &[u8], asker: u16, asked: u16) -> usize {
+fn tell_given(out: &mut Teller<'_>, asker: u16, asked: u16) {
     let code = tapa::HANDLER_ERROR;
     let name = names::code_name(code);
-    sentences::say(
-        words,
-        at,
-        sheet,
-        &[
-            sentences::GIVEN,
-            asker as usize,
-            code as usize,
-            name,
-            asked as usize,
-        ],
-    )
+    let asker = usize::from(asker);
+    out.say(&[
+        sentences::GIVEN,
+        asker,
+        usize::from(code),
+        name,
+        usize::from(asked),
+    ]);
 }
 
 // Whether a handler has a row that is marked as open.
-fn is_open(router: Router, handler: u16) -> bool {
-    let cells = router.cells;
-    let count = router.count;
-    if 16 < count {
-        return false;
-    }
-    router_rows::is_open(&cells, count, handler)
+fn is_open(router: &Router, handler: u16) -> bool {
+    router.count <= 16 && router_rows::is_open(&router.cells, router.count, handler)
 }
 
 // The answer, and whether it opened or closed the handler that gave it.
-fn tell_answered(
-    words: &mut [u8],
-    at: usize,
-    sheet: &[u8],
-    asked: u16,
-    asker: u16,
-    before: Router,
-    after: Router,
-) -> usize {
-    let next = sentences::say(
-        words,
-        at,
-        sheet,
-        &[sentences::ANSWERED, asker as usize, asked as usize],
-    );
+fn tell_answered(out: &mut Teller<'_>, asked: u16, asker: u16, before: &Router, after: &Router) {
+    out.say(&[sentences::ANSWERED, usize::from(asker), usize::from(asked)]);
     let handler = tapa::handler(asked);
-    let was = is_open(before, handler);
-    let is = is_open(after, handler);
-    if was == is {
-        return next;
+    match (is_open(before, handler), is_open(after, handler)) {
+        (false, true) => out.say(&[sentences::NOW_OPEN, usize::from(handler)]),
+        (true, false) => out.say(&[sentences::NOW_CLOSED, usize::from(handler)]),
+        _ => {}
     }
-    let form = if is {
-        sentences::NOW_OPEN
-    } else {
-        sentences::NOW_CLOSED
-    };
-    sentences::say(words, next, sheet, &[form, handler as usize])
 }
 
-fn tell_refused(
-    words: &mut [u8],
-    at: usize,
-    sheet: &[u8],
-    came: Arrival,
-    refusal: Refusal,
-    before: Router,
-) -> usize {
-    let number = tapa::number(refusal);
-    let next = sentences::say(
-        words,
-        at,
-        sheet,
-        &[sentences::REFUSED, names::refusal_name(number)],
-    );
-    reasons::tell_refused(words, next, sheet, before, came, number)
-}
-
-fn tell_reset(words: &mut [u8], at: usize, sheet: &[u8], handler: u16) -> usize {
-    let next = say_of(words, at, sheet, sentences::RESET, handler);
-    say_if_queue(words, next, sheet, handler)
+fn tell_refused(out: &mut Teller<'_>, came: Arrival, refusal: Refusal, before: &Router) {
+    let name = names::refusal_name(tapa::number(refusal));
+    out.say(&[sentences::REFUSED, name]);
+    reasons::tell_refused(out, before, came, refusal);
 }
 
 // What became of a step.
 fn tell_outcome(
-    words: &mut [u8],
-    at: usize,
-    sheet: &[u8],
+    out: &mut Teller<'_>,
     came: Arrival,
     outcome: Outcome,
-    before: Router,
-    after: Router,
-) -> usize {
+    before: &Router,
+    after: &Router,
+) {
     match outcome {
-        Outcome::Passed { asked, .. } => say_of(words, at, sheet, sentences::PASSED, asked),
-        Outcome::Answered { asked, asker, .. } => tell_answered(
-            words, at, sheet, asked, asker, before, after,
-        ),
-        Outcome::Swallowed { asked, .. } => say_of(words, at, sheet, sentences::SWALLOWED, asked),
-        Outcome::Event => sentences::say(words, at, sheet, &[sentences::EVENT]),
-        Outcome::Turned { code, .. } => tell_turned(words, at, sheet, came, code, before),
-        Outcome::Given { asker, asked, .. } => tell_given(words, at, sheet, asker, asked),
-        Outcome::Reset { handler } => tell_reset(words, at, sheet, handler),
-        Outcome::Refused(refusal) => tell_refused(words, at, sheet, came, refusal, before),
+        Outcome::Passed { asked, .. } => out.say(&[sentences::PASSED, usize::from(asked)]),
+        Outcome::Answered { asked, asker, .. } => tell_answered(out, asked, asker, before, after),
+        Outcome::Swallowed { asked, .. } => out.say(&[sentences::SWALLOWED, usize::from(asked)]),
+        Outcome::Event => out.say(&[sentences::EVENT]),
+        Outcome::Turned { code, .. } => {
+            // nothing but a command is turned back
+            if let Arrival::Command(head) = came {
+                tell_turned(out, head, code, before);
+            }
+        }
+        Outcome::Given { asker, asked, .. } => tell_given(out, asker, asked),
+        Outcome::Reset { handler } => {
+            out.say(&[sentences::RESET, usize::from(handler)]);
+            say_if_queue(out, handler);
+        }
+        Outcome::Refused(refusal) => tell_refused(out, came, refusal, before),
     }
 }
 
 // The page of the book on a refusal.
-fn see_refusal(words: &mut [u8], at: usize, sheet: &[u8], number: u8) -> usize {
-    sentences::say(
-        words,
-        at,
-        sheet,
-        &[
-            sentences::SEE_REFUSAL,
-            (number / 10) as usize,
-            (number % 10) as usize,
-        ],
-    )
+fn see_refusal(out: &mut Teller<'_>, refusal: Refusal) {
+    let number = usize::from(tapa::number(refusal));
+    out.say(&[sentences::SEE_REFUSAL, number / 10, number % 10]);
 }
 
 // The page of the book, where the router refused or made a code.
-fn tell_page(words: &mut [u8], at: usize, sheet: &[u8], outcome: Outcome) -> usize {
+fn tell_page(out: &mut Teller<'_>, outcome: Outcome) {
     match outcome {
-        Outcome::Turned { code, .. } => sentences::say(
-            words,
-            at,
-            sheet,
-            &[sentences::SEE_CODE, code as usize],
-        ),
-        Outcome::Given { .. } => sentences::say(
-            words,
-            at,
-            sheet,
-            &[sentences::SEE_CODE, tapa::HANDLER_ERROR as usize],
-        ),
-        Outcome::Refused(refusal) => see_refusal(words, at, sheet, tapa::number(refusal)),
-        _ => at,
+        Outcome::Turned { code, .. } => out.say(&[sentences::SEE_CODE, usize::from(code)]),
+        Outcome::Given { .. } => {
+            out.say(&[sentences::SEE_CODE, usize::from(tapa::HANDLER_ERROR)]);
+        }
+        Outcome::Refused(refusal) => see_refusal(out, refusal),
+        _ => {}
     }
 }
 
-// Whether the thread of what came is told of: bytes that do not read have none.
-fn has_thread(came: Arrival) -> bool {
-    let what = came.what;
-    match what {
-        What::Unread => false,
-        What::Torn => false,
-        What::Replaced => false,
-        What::Nothing => false,
-        _ => came.thread < 8,
+// The thread of what came, where it is told of: bytes that do not read have none.
+fn thread_of(came: Arrival) -> Option<u8> {
+    match came {
+        Arrival::Command(head) | Arrival::Response { head, .. } => Some(head.thread),
+        Arrival::GiveUp { thread, .. } => Some(thread),
+        _ => None,
     }
-}
-
-// How the thread of what came stands.
-fn tell_standing(
-    words: &mut [u8],
-    at: usize,
-    sheet: &[u8],
-    came: Arrival,
-    router: Router,
-) -> usize {
-    if has_thread(came) {
-        return tell_thread(words, at, sheet, router, came.thread, true);
-    }
-    at
 }
 
 fn tell_step(
-    words: &mut [u8],
-    sheet: &[u8],
+    out: &mut Teller<'_>,
     came: Arrival,
     outcome: Outcome,
-    before: Router,
-    after: Router,
-) -> usize {
-    let a = tell_arrival(words, 0, sheet, came);
-    let b = tell_outcome(words, a, sheet, came, outcome, before, after);
-    let c = tell_standing(words, b, sheet, came, after);
-    tell_page(words, c, sheet, outcome)
+    before: &Router,
+    after: &Router,
+) {
+    tell_arrival(out, came);
+    tell_outcome(out, came, outcome, before, after);
+    if let Some(thread) = thread_of(came)
+        && thread < 8
+    {
+        tell_thread(out, after, thread);
+    }
+    tell_page(out, outcome);
 }
 
 // ---- how a session ends
 
-fn tell_totals(words: &mut [u8], sheet: &[u8], sums: Totals, router: Router) -> usize {
-    let a = sentences::say(words, 0, sheet, &[sentences::ALL_PASSED, sums.accepted]);
-    let b = sentences::say(words, a, sheet, &[sentences::ALL_ANSWERED, sums.answered]);
-    let c = sentences::say(words, b, sheet, &[sentences::ALL_GIVEN, sums.given]);
-    let d = sentences::say(words, c, sheet, &[sentences::ALL_WAITING, sums.waiting]);
-    let e = sentences::say(words, d, sheet, &[sentences::ALL_OWING, sums.owing]);
-    tell_all_threads(words, e, sheet, router)
+fn tell_totals(out: &mut Teller<'_>, sums: Totals, router: &Router) {
+    out.say(&[sentences::ALL_PASSED, sums.accepted]);
+    out.say(&[sentences::ALL_ANSWERED, sums.answered]);
+    out.say(&[sentences::ALL_GIVEN, sums.given]);
+    out.say(&[sentences::ALL_WAITING, sums.waiting]);
+    out.say(&[sentences::ALL_OWING, sums.owing]);
+    tell_all_threads(out, router);
 }
 
 // What is said of an item, from the start of the buffer: with what came, and the router before and
@@ -525,62 +307,50 @@ pub fn tell(
     sheet: &[u8],
     came: Arrival,
     item: Item,
-    before: Router,
-    after: Router,
+    before: &Router,
+    after: &Router,
 ) -> usize {
+    let mut out = Teller::new(words, sheet);
     match item {
-        Item::Came { step: _, outcome } => tell_step(words, sheet, came, outcome, before, after),
-        Item::Over(sums) => tell_totals(words, sheet, sums, after),
+        Item::Came { outcome, .. } => tell_step(&mut out, came, outcome, before, after),
+        Item::Over(sums) => tell_totals(&mut out, sums, after),
         Item::Broken(number) => {
-            let next = sentences::say(words, 0, sheet, &[sentences::BROKEN, number]);
-            sentences::say(words, next, sheet, &[sentences::SEE_BROKEN])
+            out.say(&[sentences::BROKEN, number]);
+            out.say(&[sentences::SEE_BROKEN]);
         }
         Item::Refused(refusal) => {
-            let number = tapa::number(refusal);
-            let next = sentences::say(
-                words,
-                0,
-                sheet,
-                &[sentences::BAD_TABLE, names::refusal_name(number)],
-            );
-            see_refusal(words, next, sheet, number)
+            let name = names::refusal_name(tapa::number(refusal));
+            out.say(&[sentences::BAD_TABLE, name]);
+            see_refusal(&mut out, refusal);
         }
         Item::TooLong => {
-            let next = sentences::say(words, 0, sheet, &[sentences::TOO_LONG]);
-            sentences::say(words, next, sheet, &[sentences::SEE_TOO_LONG])
+            out.say(&[sentences::TOO_LONG]);
+            out.say(&[sentences::SEE_TOO_LONG]);
         }
-        Item::Nothing => 0,
+        Item::Nothing => {}
     }
+    out.place()
 }
 
 // ---- the rows
 
-fn tell_row(
-    words: &mut [u8],
-    at: usize,
-    sheet: &[u8],
-    number: usize,
-    address: u16,
-    opened: bool,
-) -> usize {
+fn tell_row(out: &mut Teller<'_>, number: usize, address: u16, opened: bool) {
     let form = if opened {
         sentences::OPEN_ROW
     } else {
         sentences::CLOSED_ROW
     };
-    let values = [
+    out.say(&[
         form,
         number,
         names::category_name(address),
-        address as usize,
+        usize::from(address),
         mark(address),
         names::device_name(address),
-    ];
-    let next = sentences::say(words, at, sheet, &values);
-    if opened {
-        return next;
+    ]);
+    if !opened {
+        say_if_queue(out, address);
     }
-    say_if_queue(words, next, sheet, address)
 }
 
 // What is said of the rows of a file, from the start of the buffer. Of rows that are too many only
@@ -589,25 +359,22 @@ pub fn tell_rows(words: &mut [u8], sheet: &[u8], input: &[u8]) -> usize {
     if 65536 < input.len() {
         return 0;
     }
-    let mut said = 0;
+    let mut out = Teller::new(words, sheet);
     let mut at = 0;
-    let mut number = 1;
-    while number <= 16 {
-        let row = fields::row_at(input, at);
+    for number in 1..=16 {
         let NextRow::Row {
             address,
             opened,
             next,
-        } = row
+        } = fields::row_at(input, at)
         else {
-            return said;
+            return out.place();
         };
-        said = tell_row(words, said, sheet, number, address, opened);
+        tell_row(&mut out, number, address, opened);
         at = next;
-        number += 1;
     }
     if let NextRow::Row { .. } = fields::row_at(input, at) {
-        return sentences::say(words, said, sheet, &[sentences::MORE_ROWS]);
+        out.say(&[sentences::MORE_ROWS]);
     }
-    said
+    out.place()
 }

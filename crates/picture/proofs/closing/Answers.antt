@@ -3,4 +3,4 @@ use Rattle.picture.proofs.Front.{drawn}
 use Rattle.picture.proofs.closing.Goals as goal
 
 pub returns : goal.returns
-returns c = drawn _ _ _ c.draw_closing.new.self.list c.draw_closing.new.self.count _ c.put_list.ensures
+returns c = drawn _ _ _ c.draw_closing-ended.result.now _ _ c.put_list.ensures

@@ -3,4 +3,4 @@ use Rattle.picture.proofs.Front.{drawn}
 use Rattle.picture.proofs.opening.Goals as goal
 
 pub returns : goal.returns
-returns c = drawn _ _ _ c.draw_opening.new.self.list c.draw_opening.new.self.count _ c.put_list.ensures
+returns c = drawn _ _ _ c.draw_opening-begun.result.now _ _ c.put_list.ensures

@@ -4,8 +4,8 @@ use Rattle.picture.proofs.put_row.Goals as goal
 
 pub returns : goal.returns
 returns c = record {
-  list = c.draw_row.new.self.list;
-  count = c.draw_row.new.self.count;
+  list = c.draw_row-drawn.result.now;
+  count = _;
   room = search rules;
   text = c.put_list.ensures;
 }

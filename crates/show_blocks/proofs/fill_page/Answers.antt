@@ -1,5 +1,4 @@
 -- Before the first block, after each one, and where there is no more item or no more room.
-use borrow.Author.Tests.{not-true, not-false}
 use Rattle.run.proofs.Left.{fewer-left}
 use Rattle.blocks.proofs.Room.{going, page-turn, page-stop, page-full}
 use Rattle.show_blocks.proofs.fill_page.Goals as goal
@@ -10,16 +9,16 @@ loop-used-init c = going c.args.input.now c.args.page.now c.args.session c.requi
 pub returns-then-not-turn : goal.returns-then-not-turn
 returns-then-not-turn c =
     let l = c.loop-used in
-    page-stop c.args.input.now c.args.page.now c.args.session l.page l.next l.used l.invariant c.next-turn.result c.next-turn.ensures c.loop-used-test.true (not-true _ c.if-not-turn.true)
+    page-stop c.args.input.now c.args.page.now c.args.session l.page l.next l.used l.invariant c.next-turn.result c.next-turn.ensures c.loop-used-test.true c.if-not-turn.true
 
 pub loop-used-smaller : goal.loop-used-smaller
 loop-used-smaller c =
-    fewer-left c.args.input.now c.loop-used.next c.next-turn.result c.next-turn.ensures (not-false _ c.if-not-turn.false)
+    fewer-left c.args.input.now c.loop-used.next c.next-turn.result c.next-turn.ensures c.if-not-turn.false
 
 pub loop-used-preserved : goal.loop-used-preserved
 loop-used-preserved c =
     let l = c.loop-used in
-    page-turn c.args.input.now c.args.page.now c.args.session l.page l.next l.used l.invariant c.next-turn.result c.next-turn.ensures c.loop-used-test.true _ _ (not-false _ c.if-not-turn.false) c.put_block-used.ensures
+    page-turn c.args.input.now c.args.page.now c.args.session l.page l.next l.used l.invariant c.next-turn.result c.next-turn.ensures c.loop-used-test.true _ _ c.if-not-turn.false c.put_block-used.ensures
 
 pub returns : goal.returns
 returns c =

@@ -1,9 +1,0 @@
--- A list has 48 places.
-use Rattle.std.proofs.Common.{◌-◌, ◌≤◌}
-use Rattle.telling.proofs.put_places.Given as goal
-
-abbrev pub invariant-loop-i : goal.invariant-loop-i
-invariant-loop-i l = l.i ≤ 48
-
-abbrev pub decreases-loop-i : goal.decreases-loop-i
-decreases-loop-i l = 48 - l.i
