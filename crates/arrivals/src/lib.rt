@@ -60,7 +60,9 @@ pub fn arrival_at(input: &[u8], at: usize) -> Arrival {
             None => Arrival::Nothing,
         },
         NextStep::GiveUp {
-            thread, address, ..
+            thread,
+            address,
+            ..
         } => Arrival::GiveUp { thread, address },
         NextStep::Replaced { address, .. } => Arrival::Replaced { address },
         NextStep::Broken | NextStep::End => Arrival::Nothing,

@@ -5,7 +5,7 @@
 // among them.
 #![tactic(auto)]
 
-ghost use Rattle.std.specs.Prelude.{◌≡◌};
+ghost use Rattle.std.specs.Prelude.{◌≡◌, [], ◌∷◌, ◌++◌};
 ghost use Rattle.text.specs.Text.{pen, puts};
 ghost use Rattle.forms.specs.Forms.{form_text};
 
@@ -238,18 +238,26 @@ impl<'a> Teller<'a> {
 impl Teller<'_> {
     // A part of a line.
     pub fn put(&mut self, form: &[usize])
-        ensures { pen self.new.words.now self.new.at ≡ puts (pen self.old.words.now self.old.at) (form_text self.old.sheet.now form.now) }
+        ensures sheet { self.new.sheet.now ≡ self.old.sheet.now }
+        ensures text { pen self.new.words.now self.new.at ≡ puts (pen self.old.words.now self.old.at) (form_text self.old.sheet.now form.now) }
     {
         self.at = show_forms::put(self.words, self.at, self.sheet, form);
     }
 
     // The end of a line.
-    pub fn end_line(&mut self) {
+    pub fn end_line(&mut self)
+        ensures sheet { self.new.sheet.now ≡ self.old.sheet.now }
+        ensures text { pen self.new.words.now self.new.at ≡ puts (pen self.old.words.now self.old.at) (10 ∷ []) }
+    {
         self.at = text::put(self.words, self.at, b'\n');
     }
 
     // A sentence that is a line of its own.
-    pub fn say(&mut self, form: &[usize]) {
+    #[tactic(auto, using(text::proofs::Calls::calls))]
+    pub fn say(&mut self, form: &[usize])
+        ensures sheet { self.new.sheet.now ≡ self.old.sheet.now }
+        ensures text { pen self.new.words.now self.new.at ≡ puts (pen self.old.words.now self.old.at) (form_text self.old.sheet.now form.now ++ (10 ∷ [])) }
+    {
         self.put(form);
         self.end_line();
     }
