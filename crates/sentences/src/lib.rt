@@ -6,8 +6,10 @@
 #![tactic(auto)]
 
 ghost use Rattle.std.specs.Prelude.{◌≡◌, [], ◌∷◌, ◌++◌};
-ghost use Rattle.text.specs.Text.{pen, puts};
+ghost use Rattle.text.specs.Text.{pen, pen_of, Writes};
 ghost use Rattle.forms.specs.Forms.{form_text};
+
+use text::Writer;
 
 pub const ENCIPHERED: usize = names::FREE;
 
@@ -217,21 +219,17 @@ pub fn write_sheet(sheet: &mut [u8]) {
 // nothing more is said.
 #[derive(Drop)]
 pub struct Teller<'a> {
-    words: &'a mut [u8],
-    at: usize,
+    out: Writer<'a>,
     sheet: &'a [u8],
 }
 
 impl<'a> Teller<'a> {
     // Nothing is said yet.
     pub fn new(words: &'a mut [u8], sheet: &'a [u8]) -> Teller<'a>
-        ensures { result.at ≡ 0 }
+        ensures { pen_of result.out ≡ pen words.old 0 }
     {
-        Teller {
-            words,
-            at: 0,
-            sheet,
-        }
+        let out = Writer::new(words, 0);
+        Teller { out, sheet }
     }
 }
 
@@ -239,24 +237,24 @@ impl Teller<'_> {
     // A part of a line.
     pub fn put(&mut self, form: &[usize])
         ensures sheet { self.new.sheet.now ≡ self.old.sheet.now }
-        ensures text { pen self.new.words.now self.new.at ≡ puts (pen self.old.words.now self.old.at) (form_text self.old.sheet.now form.now) }
+        ensures text { Writes self.old.out self.new.out (form_text self.old.sheet.now form.now) }
     {
-        self.at = show_forms::put(self.words, self.at, self.sheet, form);
+        show_forms::put_form(&mut self.out, self.sheet, form);
     }
 
     // The end of a line.
     pub fn end_line(&mut self)
         ensures sheet { self.new.sheet.now ≡ self.old.sheet.now }
-        ensures text { pen self.new.words.now self.new.at ≡ puts (pen self.old.words.now self.old.at) (10 ∷ []) }
+        ensures text { Writes self.old.out self.new.out (10 ∷ []) }
     {
-        self.at = text::put(self.words, self.at, b'\n');
+        self.out.put(b'\n');
     }
 
     // A sentence that is a line of its own.
     #[tactic(auto, using(text::proofs::Calls::calls))]
     pub fn say(&mut self, form: &[usize])
         ensures sheet { self.new.sheet.now ≡ self.old.sheet.now }
-        ensures text { pen self.new.words.now self.new.at ≡ puts (pen self.old.words.now self.old.at) (form_text self.old.sheet.now form.now ++ (10 ∷ [])) }
+        ensures text { Writes self.old.out self.new.out (form_text self.old.sheet.now form.now ++ (10 ∷ [])) }
     {
         self.put(form);
         self.end_line();
@@ -264,8 +262,8 @@ impl Teller<'_> {
 
     // How much has been said.
     pub fn place(&self) -> usize
-        ensures { result ≡ self.now.at }
+        ensures { result ≡ self.now.out.at }
     {
-        self.at
+        self.out.place()
     }
 }
