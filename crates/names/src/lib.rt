@@ -8,9 +8,11 @@
 // The cells from `FREE` to 255 are left to the program that draws or explains.
 #![tactic(auto)]
 
-// Where the names of each kind begin.
+// The cell of no name is a number like the others, and no Option: a hole that is filled with it stays
+// empty, so nobody has to ask whether there is a name.
 pub const NOTHING: usize = 0;
 
+// Where the names of each kind begin.
 const CATEGORIES: usize = 1;
 
 const DEVICES: usize = 16;
@@ -27,20 +29,16 @@ const TYPES: usize = 256;
 
 // A handler's category; those above 07 are reserved.
 pub fn category_name(address: u16) -> usize {
-    let category = tapa::category(address) as usize;
-    if category < 8 {
-        return CATEGORIES + category;
-    }
-    CATEGORIES + 8
+    CATEGORIES + usize::from(tapa::category(address)).min(8)
 }
 
 // A device of Table 2, by its handler; most handlers have no name but their category's.
 pub fn device_name(address: u16) -> usize {
     let device = tapa::handler(address);
     match device {
-        0x0201..=0x0204 => DEVICES + (device - 0x0200) as usize,
-        0x0301..=0x0304 => DEVICES + 4 + (device - 0x0300) as usize,
-        0x0401..=0x0404 => DEVICES + 8 + (device - 0x0400) as usize,
+        0x0201..=0x0204 => DEVICES + usize::from(device - 0x0200),
+        0x0301..=0x0304 => DEVICES + 4 + usize::from(device - 0x0300),
+        0x0401..=0x0404 => DEVICES + 8 + usize::from(device - 0x0400),
         _ => NOTHING,
     }
 }
@@ -48,38 +46,35 @@ pub fn device_name(address: u16) -> usize {
 // A type that no table has is unknown: its cell is that of type 00.
 pub fn type_name(kind: u8) -> usize {
     match kind {
-        0x40..=0x48 | 0x60..=0x61 | 0x63..=0x6A | 0x6C => TYPES + kind as usize,
-        0x80..=0x82 | 0x90..=0x98 | 0xB0..=0xB1 | 0xC0..=0xC3 => TYPES + kind as usize,
-        0xF0..=0xF1 | 0xF3..=0xF5 | 0xFF => TYPES + kind as usize,
+        0x40..=0x48
+        | 0x60..=0x61
+        | 0x63..=0x6A
+        | 0x6C
+        | 0x80..=0x82
+        | 0x90..=0x98
+        | 0xB0..=0xB1
+        | 0xC0..=0xC3
+        | 0xF0..=0xF1
+        | 0xF3..=0xF5
+        | 0xFF => TYPES + usize::from(kind),
         _ => TYPES,
     }
 }
 
-// A code that router, queue and store do not make has the last of the cells.
+// The codes that router, queue and store make, in the order of their cells.
+const CODES_MADE: [u16; 16] = [
+    0x0000, 0xFFF0, 0xFFF1, 0xFFF3, 0xFFF5, 0xFFF6, 0xFFF7, 0xFFFB, 0xFF50, 0xFF51, 0xFF52, 0xFF53,
+    0xFF56, 0xFF59, 0xFF72, 0xFF73,
+];
+
+// Any other code has the cell behind theirs.
 pub fn code_name(code: u16) -> usize {
-    match code {
-        0x0000 => CODES,
-        0xFFF0 => CODES + 1,
-        0xFFF1 => CODES + 2,
-        0xFFF3 => CODES + 3,
-        0xFFF5 => CODES + 4,
-        0xFFF6 => CODES + 5,
-        0xFFF7 => CODES + 6,
-        0xFFFB => CODES + 7,
-        0xFF50 => CODES + 8,
-        0xFF51 => CODES + 9,
-        0xFF52 => CODES + 10,
-        0xFF53 => CODES + 11,
-        0xFF56 => CODES + 12,
-        0xFF59 => CODES + 13,
-        0xFF72 => CODES + 14,
-        0xFF73 => CODES + 15,
-        _ => CODES + 16,
-    }
+    let made = CODES_MADE.iter().position(|made| *made == code);
+    CODES + made.unwrap_or(CODES_MADE.len())
 }
 
 pub fn refusal_name(number: u8) -> usize {
-    REFUSALS + number as usize
+    REFUSALS + usize::from(number)
 }
 
 // ---- the names
