@@ -69,7 +69,8 @@ pub fn put_step(out: &mut Writer<'_>, number: usize, outcome: Outcome, reply: &[
     end_line(out);
 }
 
-// The last line of a session that has no broken field.
+// The last line of a session that has no broken field. Its five numbers come one by one: the struct that
+// holds them is of room `run`, which this room does not stand on.
 pub fn put_totals(
     out: &mut Writer<'_>,
     accepted: usize,

@@ -35,7 +35,8 @@ fn put_item(out: &mut Writer<'_>, item: Item, reply: &[u8; 10])
     }
 }
 
-// Writes the line of an item from a place on, and answers the place after it.
+// Writes the line of an item from a place on, and answers the place after it. Pages hold the place
+// themselves, since `fill_page` of the rooms above promises how many bytes are used.
 pub fn put_line(line: &mut [u8], at: usize, item: Item, reply: &[u8; 10]) -> usize
     ensures { pen line.new result ≡ puts (pen line.old at) (line_with item reply.now) }
 {
