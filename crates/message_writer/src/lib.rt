@@ -9,19 +9,15 @@ ghost use Rattle.message.specs.Message.{head_bytes, Wrote, responded};
 
 use tapa::Refusal;
 
-fn put_head(buffer: &mut [u8], destination: u16, source: u16, kind: u8, thread: u8, long: usize)
-    requires in_bounds { 8 ≤ length buffer.old }
-    requires long_bound { long ≤ 1024 }
+fn put_head(buffer: &mut [u8], destination: u16, source: u16, kind: u8, thread: u8, long: u16)
+    requires { 8 ≤ length buffer.old }
     ensures { buffer.new ≡ onto (head_bytes destination source kind thread long) buffer.old }
 {
-    buffer[0] = (destination / 256) as u8;
-    buffer[1] = (destination % 256) as u8;
-    buffer[2] = (source / 256) as u8;
-    buffer[3] = (source % 256) as u8;
+    buffer[0..2].copy_from_slice(&destination.to_be_bytes());
+    buffer[2..4].copy_from_slice(&source.to_be_bytes());
     buffer[4] = kind;
     buffer[5] = thread;
-    buffer[6] = (long / 256) as u8;
-    buffer[7] = (long % 256) as u8;
+    buffer[6..8].copy_from_slice(&long.to_be_bytes());
 }
 
 // Writes a message at the start of a buffer, and answers its length.
@@ -42,12 +38,13 @@ pub fn write(
     if buffer.len() < 8 + length {
         return Err(Refusal::BufferTooSmall);
     }
-    put_head(buffer, destination, source, kind, thread, length);
+    put_head(buffer, destination, source, kind, thread, length as u16);
     octets::copy(part, &mut buffer[8..]);
     Ok(8 + length)
 }
 
 // Writes a response that carries its code alone: ten bytes, where the buffer has them.
+#[tactic(auto, unfolding(message::specs::Message::response_of, message::specs::Message::message_of))]
 pub fn respond(buffer: &mut [u8], destination: u16, source: u16, thread: u8, code: u16)
     ensures { buffer.new ≡ responded destination source thread code buffer.old }
 {
@@ -55,6 +52,5 @@ pub fn respond(buffer: &mut [u8], destination: u16, source: u16, thread: u8, cod
         return;
     }
     put_head(buffer, destination, source, tapa::RESPONSE, thread, 2);
-    buffer[8] = (code / 256) as u8;
-    buffer[9] = (code % 256) as u8;
+    buffer[8..10].copy_from_slice(&code.to_be_bytes());
 }

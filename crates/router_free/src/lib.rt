@@ -76,11 +76,7 @@ fn wipe_row(numbers: &mut [u8; 128], row: usize)
     requires { row < 16 }
     ensures { numbers.new ≡ wiped (8 * row) 8 numbers.old }
 {
-    let mut k = 0;
-    while k < 8 {
-        numbers[8 * row + k] = 0;
-        k += 1;
-    }
+    numbers[8 * row..8 * row + 8].fill(0);
 }
 
 // None left of a handler.
