@@ -9,10 +9,7 @@ use rules::Outcome;
 fn first_ten(reply: &[u8]) -> &[u8]
     ensures { FirstTen reply.entry result }
 {
-    if reply.len() < 10 {
-        return reply;
-    }
-    &reply[0..10]
+    &reply[..reply.len().min(10)]
 }
 
 // What goes on after an outcome: a part of the message or of the reply buffer, never a copy.
@@ -21,13 +18,8 @@ pub fn part_to_send<'a>(outcome: Outcome, message: &'a [u8], reply: &'a [u8]) ->
     ensures { Sending outcome message.entry reply.entry result }
 {
     match outcome {
-        Outcome::Passed { .. } => message,
-        Outcome::Answered { .. } => message,
-        Outcome::Event => message,
-        Outcome::Turned { .. } => first_ten(reply),
-        Outcome::Given { .. } => first_ten(reply),
-        Outcome::Swallowed { .. } => &message[0..0],
-        Outcome::Reset { .. } => &message[0..0],
-        Outcome::Refused(_) => &message[0..0],
+        Outcome::Passed { .. } | Outcome::Answered { .. } | Outcome::Event => message,
+        Outcome::Turned { .. } | Outcome::Given { .. } => first_ten(reply),
+        Outcome::Swallowed { .. } | Outcome::Reset { .. } | Outcome::Refused(_) => &message[..0],
     }
 }

@@ -18,26 +18,26 @@ ghost use Rattle.tapa.specs.Numbers.{word_at};
 // of an address that has no wait, 20 of one whose handler still holds a question of its own.
 #[derive(Clone, Copy)]
 pub enum Refusal {
-    TooShort,
-    TooLong,
-    FewerThanAnnounced,
-    NotInTable,
-    ThreadAbove7,
-    NoResponseCode,
-    StrayResponse,
-    WrongAsker,
-    BufferTooSmall,
-    EventCannotBeTaken,
-    RowCountOrShape,
-    Repeat,
-    TooManyMulti,
-    NothingToGiveUp,
-    NotThisPartsMessage,
-    StandsInAWait,
-    NoSourceKept,
-    StatusNotUsable,
-    MoreThanAnnounced,
-    HoldsAQuestion,
+    TooShort = 1,
+    TooLong = 2,
+    FewerThanAnnounced = 3,
+    NotInTable = 4,
+    ThreadAbove7 = 5,
+    NoResponseCode = 6,
+    StrayResponse = 7,
+    WrongAsker = 8,
+    BufferTooSmall = 9,
+    EventCannotBeTaken = 10,
+    RowCountOrShape = 11,
+    Repeat = 12,
+    TooManyMulti = 13,
+    NothingToGiveUp = 14,
+    NotThisPartsMessage = 15,
+    StandsInAWait = 16,
+    NoSourceKept = 17,
+    StatusNotUsable = 18,
+    MoreThanAnnounced = 19,
+    HoldsAQuestion = 20,
 }
 
 // Response codes, by TAPA's names.
@@ -130,35 +130,14 @@ pub const EVENT_HANDLER: u16 = 0x0700;
 pub fn number(refusal: Refusal) -> u8
     ensures { result ≡ number_of refusal }
 {
-    match refusal {
-        Refusal::TooShort => 1,
-        Refusal::TooLong => 2,
-        Refusal::FewerThanAnnounced => 3,
-        Refusal::NotInTable => 4,
-        Refusal::ThreadAbove7 => 5,
-        Refusal::NoResponseCode => 6,
-        Refusal::StrayResponse => 7,
-        Refusal::WrongAsker => 8,
-        Refusal::BufferTooSmall => 9,
-        Refusal::EventCannotBeTaken => 10,
-        Refusal::RowCountOrShape => 11,
-        Refusal::Repeat => 12,
-        Refusal::TooManyMulti => 13,
-        Refusal::NothingToGiveUp => 14,
-        Refusal::NotThisPartsMessage => 15,
-        Refusal::StandsInAWait => 16,
-        Refusal::NoSourceKept => 17,
-        Refusal::StatusNotUsable => 18,
-        Refusal::MoreThanAnnounced => 19,
-        Refusal::HoldsAQuestion => 20,
-    }
+    refusal as u8
 }
 
 // Two bytes as a number, the high one first.
 pub fn pair(high: u8, low: u8) -> u16
     ensures { result ≡ high * 256 + low }
 {
-    high as u16 * 256 + low as u16
+    u16::from_be_bytes([high, low])
 }
 
 // The byte at a place; 0 past the end.
@@ -181,7 +160,8 @@ pub fn word_at(s: &[u8], i: usize) -> u16
 pub fn category(address: u16) -> u8
     ensures { result ≡ category_of address }
 {
-    (address / 256) as u8
+    let [category, _] = address.to_be_bytes();
+    category
 }
 
 // The address with the top bit of its sub-address cleared.
