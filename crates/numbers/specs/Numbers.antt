@@ -19,6 +19,11 @@ abbrev pub cell_by : Option ℕ → (handler thread : ℕ) → ℕ
 cell_by None h t = 128
 cell_by (Some i) h t = cell_in i h t
 
+-- a cell of the 128 with the number k, or none where k is past them
+abbrev pub Cell : (k : ℕ) → Option ℕ → Type 0
+Cell k None = 128 ≤ k
+Cell k (Some cell) = (cell ≡ k) × (cell < 128)
+
 unfoldable pub cell_of : List Row → (handler thread : ℕ) → ℕ
 cell_of rows h t = cell_by (find (is_at h) rows) h t
 

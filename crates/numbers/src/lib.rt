@@ -10,13 +10,3 @@
 // walk (proofs/Kept.antt, `counted`), so the answer by the number is the one by the walk
 // (proofs/Free.antt, `free-as-walked`). The code stands in room router_free.
 #![tactic(auto)]
-
-use tapa::Refusal;
-
-// What the question "is it free?" is answered with.
-#[derive(Clone, Copy)]
-pub enum Freedom {
-    Yes,
-    No,
-    Refused(Refusal),
-}

@@ -10,10 +10,9 @@ ghost use Rattle.std.specs.Prelude.{◌≡◌, ◌*◌, ◌≤◌, ◌<◌};
 ghost use Rattle.lists.specs.Lists.{find};
 ghost use Rattle.tapa.specs.Address.{handler_of};
 ghost use Rattle.table.specs.Table.{is_at, rows_of};
-ghost use Rattle.numbers.specs.Numbers.{cell_in, cell_of, raised_in, lowered_at, wiped, wiped_row};
+ghost use Rattle.numbers.specs.Numbers.{cell_in, Cell, cell_of, raised_in, lowered_at, wiped, wiped_row};
 ghost use Rattle.numbers.specs.Free.{free_in};
 
-use numbers::Freedom;
 use tapa::Refusal;
 
 // ---- where a number stands
@@ -24,21 +23,20 @@ fn cell_in(row: usize, handler: u16, thread: u8) -> usize
     ensures { result ≡ cell_in row handler thread }
 {
     if tapa::is_multi(handler) {
-        return 8 * row + thread as usize;
+        return 8 * row + usize::from(thread);
     }
     8 * row
 }
 
-// The cell of an asked address. A handler that has no row has none: past the 128.
-fn cell_of(cells: &[u32; 16], count: usize, asked: u16, thread: u8) -> usize
+// The cell of an asked address, where it is one of the 128. A handler that has no row has none.
+fn cell_of(cells: &[u32; 16], count: usize, asked: u16, thread: u8) -> Option<usize>
     requires { count ≤ 16 }
-    ensures { result ≡ cell_of (rows_of cells.now count) (handler_of asked) thread }
+    ensures { Cell (cell_of (rows_of cells.now count) (handler_of asked) thread) result }
 {
     let handler = tapa::handler(asked);
-    match router_rows::row_of(cells, count, handler) {
-        None => 128,
-        Some(row) => cell_in(row, handler, thread),
-    }
+    let row = router_rows::row_of(cells, count, handler)?;
+    let cell = cell_in(row, handler, thread);
+    if cell < 128 { Some(cell) } else { None }
 }
 
 // ---- the numbers
@@ -48,12 +46,8 @@ pub fn raise(cells: &[u32; 16], count: usize, numbers: &mut [u8; 128], asked: u1
     requires { count ≤ 16 }
     ensures { numbers.new ≡ raised_in (cell_of (rows_of cells.now count) (handler_of asked) thread) numbers.old }
 {
-    let cell = cell_of(cells, count, asked, thread);
-    if cell < 128 {
-        let n = numbers[cell];
-        if n < 255 {
-            numbers[cell] = n + 1;
-        }
+    if let Some(cell) = cell_of(cells, count, asked, thread) {
+        numbers[cell] = numbers[cell].saturating_add(1);
     }
 }
 
@@ -62,12 +56,8 @@ pub fn lower(cells: &[u32; 16], count: usize, numbers: &mut [u8; 128], asked: u1
     requires { count ≤ 16 }
     ensures { numbers.new ≡ lowered_at (cell_of (rows_of cells.now count) (handler_of asked) thread) numbers.old }
 {
-    let cell = cell_of(cells, count, asked, thread);
-    if cell < 128 {
-        let n = numbers[cell];
-        if 0 < n {
-            numbers[cell] = n - 1;
-        }
+    if let Some(cell) = cell_of(cells, count, asked, thread) {
+        numbers[cell] = numbers[cell].saturating_sub(1);
     }
 }
 
@@ -84,9 +74,8 @@ pub fn wipe(cells: &[u32; 16], count: usize, numbers: &mut [u8; 128], handler: u
     requires { count ≤ 16 }
     ensures { numbers.new ≡ wiped_row (find (is_at handler) (rows_of cells.now count)) numbers.old }
 {
-    match router_rows::row_of(cells, count, handler) {
-        None => {}
-        Some(row) => wipe_row(numbers, row),
+    if let Some(row) = router_rows::row_of(cells, count, handler) {
+        wipe_row(numbers, row);
     }
 }
 
@@ -99,22 +88,16 @@ pub fn is_free(
     numbers: &[u8; 128],
     address: u16,
     thread: u8,
-) -> Freedom
+) -> Result<bool, Refusal>
     requires { count ≤ 16 }
     ensures { result ≡ free_in (rows_of cells.now count) numbers.now address thread }
 {
     let handler = tapa::handler(address);
-    match router_rows::row_of(cells, count, handler) {
-        None => Freedom::Refused(Refusal::NotInTable),
-        Some(row) => {
-            if 7 < thread {
-                return Freedom::Refused(Refusal::ThreadAbove7);
-            }
-            let cell = cell_in(row, handler, thread);
-            if numbers[cell] == 0 {
-                return Freedom::Yes;
-            }
-            Freedom::No
-        }
+    let Some(row) = router_rows::row_of(cells, count, handler) else {
+        return Err(Refusal::NotInTable);
+    };
+    if 7 < thread {
+        return Err(Refusal::ThreadAbove7);
     }
+    Ok(numbers[cell_in(row, handler, thread)] == 0)
 }
