@@ -14,10 +14,21 @@ use tapa::Refusal;
 pub fn read(message: &[u8]) -> Result<Head, Refusal>
     ensures { result ≡ read_of message.now }
 {
-    if message.len() < 8 {
+    let &[
+        to_high,
+        to_low,
+        from_high,
+        from_low,
+        kind,
+        thread,
+        high,
+        low,
+        ..
+    ] = message
+    else {
         return Err(Refusal::TooShort);
-    }
-    let length = tapa::pair(message[6], message[7]) as usize;
+    };
+    let length = usize::from(tapa::pair(high, low));
     if 1024 < length {
         return Err(Refusal::TooLong);
     }
@@ -28,10 +39,10 @@ pub fn read(message: &[u8]) -> Result<Head, Refusal>
         return Err(Refusal::MoreThanAnnounced);
     }
     Ok(Head {
-        destination: tapa::pair(message[0], message[1]),
-        source: tapa::pair(message[2], message[3]),
-        kind: message[4],
-        thread: message[5],
+        destination: tapa::pair(to_high, to_low),
+        source: tapa::pair(from_high, from_low),
+        kind,
+        thread,
         length,
     })
 }
@@ -51,9 +62,8 @@ pub fn data_part(message: &[u8]) -> &[u8]
 pub fn response_code(part: &[u8]) -> Option<u16>
     ensures { result ≡ code_of part.now }
 {
-    let n = part.len();
-    if n < 2 {
+    let [.., high, low] = part else {
         return None;
-    }
-    Some(tapa::pair(part[n - 2], part[n - 1]))
+    };
+    Some(tapa::pair(*high, *low))
 }
