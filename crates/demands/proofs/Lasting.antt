@@ -7,8 +7,7 @@ use Rattle.demands.proofs.Stored.{none_yet, one_more}
 use Rattle.demands.specs.Lasting.{Lasting, Outlives, begun, restarted, went_on}
 use Rattle.demands.specs.Stored.{AsFiles, Exchange}
 use Rattle.image.proofs.Trips.{load-save, load-save-storable, load-save-view}
-use Rattle.image.specs.Image.{Storable, image_of, load_of}
-use Rattle.image.specs.declared.Loaded.{Loaded}
+use Rattle.image.specs.Image.{Storable, image_of, load_of, loaded}
 
 storable : {h : List Exchange} {b : Book} {area : List ℕ} → AsFiles h b area → Storable b area
 storable w = record { law = w.law; sound = w.sound }
@@ -19,7 +18,7 @@ lasting-as-files (went_on h b area s message before after area' out bytes c) = o
 lasting-as-files (restarted h b area s lent e) =
     let w = lasting-as-files s in
     let k = load-save-storable b area (storable w) lent e in
-    let same : (load_of (image_of b area) lent).book ≡ b = ap (λ (r : Loaded). r.book) (load-save b area (storable w) lent e) in
+    let same : loaded (load_of (image_of b area) lent) ≡ b = ap loaded (load-save b area (storable w) lent e) in
     rw same (record { law = k.law; files = load-save-view b area (storable w) lent e ∙ w.files; said = w.said; sound = k.sound })
 
 pub outlives : {h : List Exchange} {b : Book} {area : List ℕ} → Lasting h b area → Outlives h b area

@@ -1,6 +1,6 @@
 -- An image read back: the table row by row, the entries one by one, and the slots into the area.
 use Prim.Native.Nat.{◌*◌, ◌+◌, ◌-◌, ◌<◌, ℕ, ◌≤◌}
-use mathlib.Core.Bool.{false}
+use Rattle.std.specs.Prelude.{Err}
 use mathlib.Core.List.{◌++◌, List, [], ◌∷◌}
 use mathlib.Core.Path.{ap, refl, subst, sym, ◌∙◌, ◌≡◌}
 use native.Mathlib.Numerals.{add-one}
@@ -14,11 +14,11 @@ use Rattle.book.specs.Book.{Shaped, book_of, no_entry, no_kind, no_kinds, pushed
 use Rattle.book.specs.declared.Book.{Book}
 use Rattle.book.specs.declared.Entry.{Entry}
 use Rattle.book.specs.declared.Kind.{Kind}
-use Rattle.image.specs.Image.{is_whole, load_area, load_of, poured, refused}
+use Rattle.image.specs.Image.{load_area, load_of, poured}
 use Rattle.layout.specs.Judged.{count_in, verdict_of}
 use Rattle.layout.specs.Layout.{size_of}
-use Rattle.layout.specs.declared.Verdict.{Verdict}
-use Rattle.layout.specs.declared.Verdict.TheVariants.{Area}
+use Rattle.layout.specs.declared.Flaw.{Flaw}
+use Rattle.layout.specs.declared.Flaw.TheVariants.{Area}
 use Rattle.lists.proofs.ByPlace.{take_more}
 use Rattle.slots.specs.Slots.{put}
 
@@ -100,13 +100,10 @@ module _ (l : List Entry) (slots : List ℕ) where
 
 -- ---- what `load` answers of bytes that it refuses
 module _ (img area : List ℕ) where
-  pub refused-area : (length area ≡ 98048 → ⊥) → (refused Area ≡ load_of img area) × (area ≡ load_area img area)
+  pub refused-area : (length area ≡ 98048 → ⊥) → (Err Area ≡ load_of img area) × (area ≡ load_area img area)
   unfolding load_of load_area
   refused-area h = let t = ne_eqb (length area) 98048 h in (rw t, rw t)
 
-  pub refused-bytes : (v : Verdict) → length area ≡ 98048 → v ≡ verdict_of img → is_whole v ≡ false → (refused v ≡ load_of img area) × (area ≡ load_area img area)
+  pub refused-bytes : (x : Flaw) → length area ≡ 98048 → verdict_of img ≡ Err x → (Err x ≡ load_of img area) × (area ≡ load_area img area)
   unfolding load_of load_area
-  refused-bytes v h e f =
-      let t = eq-eqb (length area) 98048 h in
-      let u : is_whole (verdict_of img) ≡ false = ap is_whole (sym e) ∙ f in
-      (ap refused e ∙ rw (t, u), rw (t, u))
+  refused-bytes x h e = let t = eq-eqb (length area) 98048 h in (rw (t, e), rw (t, e))

@@ -1,6 +1,7 @@
 -- A store as bytes: each number of an entry is a byte, and the pieces that `save` writes one behind the other are the image.
 use Prim.Native.Nat.{◌*◌, ◌+◌, ◌-◌, ◌<◌, ℕ, ◌≤◌}
 use mathlib.Core.Bool.{Bool, cond}
+use Rattle.std.specs.Prelude.{Some, None}
 use mathlib.Core.List.{◌++◌, List, append_assoc}
 use mathlib.Core.Path.{ap, refl, sym, ◌∙◌, ◌≡◌}
 use native.Mathlib.Omega.{arith}
@@ -17,7 +18,6 @@ use Rattle.book.specs.declared.Entry.{Entry}
 use Rattle.book.specs.declared.Kind.{Kind}
 use Rattle.image.proofs.Flats.{entries-wide, flat-long, kinds-wide, slots-wide}
 use Rattle.image.specs.Image.{image_of, saved_in, saved_of, slot_bytes}
-use Rattle.image.specs.declared.Saved.TheVariants.{Small, Wrote}
 use Rattle.layout.specs.Layout.{entry_bytes, flat, kind_bytes, name, sealed, size_of, sum_bytes, version}
 use Rattle.lists.proofs.ByPlace.{all-at}
 use Rattle.lists.proofs.Onto.{prefix}
@@ -111,14 +111,14 @@ module _ (b : Book) (area out : List ℕ) (n : ℕ) (held : n ≡ length (entrie
   size_is : 68 + n * 389 ≡ size_of (length (entries_of b))
   size_is = ap size_of held
 
-  pub saved-small : length out < 68 + n * 389 → (Small ≡ saved_of b out) × (out ≡ saved_in b area out)
+  pub saved-small : length out < 68 + n * 389 → (None ≡ saved_of b out) × (out ≡ saved_in b area out)
   saved-small h = let t = lt-ltb (length out) (size_of (length (entries_of b))) (rw size_is at h) in (rw t, rw t)
 
   pub saved-done : Lawful b area → (o1 o2 o3 o4 o5 o6 o7 : List ℕ) (sum : Sums) → 68 + n * 389 ≤ length out
       → o1 ≡ over out 0 (name ++ version) → o2 ≡ over o1 14 (flat kind_bytes b.kinds) → o3 ≡ over o2 62 (two_bytes n) → o4 ≡ over o3 64 (flat entry_bytes (entries_of b))
       → o5 ≡ over o4 (64 + n * 6) (flat (slot_bytes area) (entries_of b)) → sum ≡ adler32 (take ((68 + n * 389 - 4) - 0) (drop 0 o5))
       → o6 ≡ over o5 (68 + n * 389 - 4) (two_bytes sum.high) → o7 ≡ over o6 (68 + n * 389 - 4 + 2) (two_bytes sum.low)
-      → (Wrote (68 + n * 389) ≡ saved_of b out) × (o7 ≡ saved_in b area out)
+      → (Some (68 + n * 389) ≡ saved_of b out) × (o7 ≡ saved_in b area out)
   saved-done law o1 o2 o3 o4 o5 o6 o7 sum room e1 e2 e3 e4 e5 es e6 e7 =
       let l = entries_of b in
       let t = le-ltb (length out) (size_of (length l)) (rw size_is at room) in
@@ -129,7 +129,7 @@ module _ (b : Book) (area out : List ℕ) (n : ℕ) (held : n ≡ length (entrie
       (flat-long kind_bytes 3 b.kinds (kinds-wide b.kinds) ∙ omega (arith, law.shape.files)) refl
       (flat-long entry_bytes 6 l (entries-wide l) ∙ omega arith) (flat-long (slot_bytes area) 383 l (slots-wide area b.kinds l law.roomy law.fit) ∙ omega arith)
       room (omega arith) e1 e2 e3 e4 e5 es e6 e7 in (
-        rw t (ap Wrote size_is),
+        rw t (ap Some size_is),
         whole ∙ ap (λ (m : ℕ). over out 0 (sealed ((name ++ version) ++ (ks ++ (two_bytes m ++ (rows ++ slots)))))) held ∙ over-start out (image_of b area)
             ∙ sym (ap (λ (q : Bool). cond q out (onto (image_of b area) out)) t),
       )

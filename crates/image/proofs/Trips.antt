@@ -1,6 +1,7 @@
 -- Stores and their images: what is saved is loaded again, what is loaded was saved, two stores with one image are one store, and a changed byte is seen.
 use Prim.Native.Nat.{◌*◌, ◌+◌, ◌<◌, ℕ, ◌≤◌}
 use mathlib.Core.Bool.{false, true}
+use Rattle.std.specs.Prelude.{Result, Ok, Err, is_ok, ⊤}
 use mathlib.Core.List.{◌++◌, List, [], ◌∷◌}
 use mathlib.Core.Path.{ap, refl, sym, ◌∙◌, ◌≡◌}
 use native.Mathlib.Omega.{arith}
@@ -18,8 +19,7 @@ use Rattle.files.specs.Sound.{Sound}
 use Rattle.image.proofs.Loads.{loaded-area, loaded-book, loaded-not, loaded-whole, whole-alone}
 use Rattle.image.proofs.Pours.{poured-bytes, poured-long, poured-slots, same-files, same-records, slots-bytes, slots-long}
 use Rattle.image.proofs.Sounds.{Own, all_apart, fit_all, owns, sound-of, sound-view}
-use Rattle.image.specs.Image.{Storable, image_of, is_whole, load_area, load_of, poured, restored_area, slot_bytes}
-use Rattle.image.specs.declared.Loaded.{Loaded}
+use Rattle.image.specs.Image.{Storable, image_of, load_area, handed, load_of, loaded, poured, restored, restored_area, slot_bytes}
 use Rattle.layout.proofs.Back.{slots_small}
 use Rattle.layout.proofs.Readers.{entries-count, table-count}
 use Rattle.layout.proofs.Bytes.{Small, written-bytes}
@@ -28,7 +28,7 @@ use Rattle.layout.proofs.OneByte.{same_byte}
 use Rattle.layout.proofs.Verdicts.{Imaged, is-whole, whole_is}
 use Rattle.layout.specs.Judged.{count_in, entries_in, slots_in, table_in, verdict_of}
 use Rattle.layout.specs.Layout.{body_of, flat, sealed, size_of, sum_bytes}
-use Rattle.layout.specs.declared.Verdict.TheVariants.{Whole}
+use Rattle.layout.specs.declared.Flaw.{Flaw}
 use Rattle.lists.proofs.Bytes.{bytes_drop}
 use Rattle.lists.proofs.Tests.{clash, split}
 use Rattle.lists.specs.Lists.{All, Bytes, count}
@@ -52,7 +52,7 @@ module _ (b : Book) (area : List ℕ) (st : Storable b area) where
   pub image-small : length (image_of b area) ≤ 99652
   image-small = omega (arith, image-long, held-few)
 
-  pub saved-whole : verdict_of (image_of b area) ≡ Whole
+  pub saved-whole : verdict_of (image_of b area) ≡ Ok tt
   saved-whole = is-whole (image_of b area) (written_is b.kinds (entries_of b) kept st.law.shape.files kept-long st.law.limits held-few (sound-of b area st))
 
   table-was : table_in (image_of b area) ≡ b.kinds
@@ -64,11 +64,11 @@ module _ (b : Book) (area : List ℕ) (st : Storable b area) where
   -- .. into any lent area of the right size
   module _ (area₀ : List ℕ) (roomy : length area₀ ≡ 98048) where
     -- the very book
-    pub load-save : load_of (image_of b area) area₀ ≡ record { verdict = Whole; book = b }
+    pub load-save : load_of (image_of b area) area₀ ≡ Ok b
     load-save =
         loaded-book (image_of b area) area₀ roomy saved-whole
-        ∙ (λ i. record { verdict = Whole; book = book_of (table-was i) (entries-were i) })
-        ∙ ap (λ (v : Book). record { verdict = Whole; book = v }) (sym st.law.shape.whole)
+        ∙ (λ i. Ok (book_of (table-was i) (entries-were i)))
+        ∙ ap (λ (v : Book). Ok v) (sym st.law.shape.whole)
 
     abbrev again : List ℕ
     again = load_area (image_of b area) area₀
@@ -110,12 +110,12 @@ module _ (b : Book) (area : List ℕ) (st : Storable b area) where
 pub one-image : (b b' : Book) (area area' : List ℕ) → Storable b area → Storable b' area' → image_of b area ≡ image_of b' area' → (b ≡ b') × (view_of b area ≡ view_of b' area')
 one-image b b' area area' st st' e =
     let roomy = st.law.roomy in
-    let same : b ≡ b' = ap (λ (r : Loaded). r.book) (sym (load-save b area st area roomy) ∙ ap (λ (img : List ℕ). load_of img area) e ∙ load-save b' area' st' area roomy) in
+    let same : b ≡ b' = ap loaded (sym (load-save b area st area roomy) ∙ ap (λ (img : List ℕ). load_of img area) e ∙ load-save b' area' st' area roomy) in
     (same, sym (load-save-view b area st area roomy) ∙ (λ i. view_of (same i) (load_area (e i) area)) ∙ load-save-view b' area' st' area roomy)
 
 -- ---- what is loaded was saved
 
-module _ (img area : List ℕ) (bytes : Bytes img) (ok : (load_of img area).verdict ≡ Whole) where
+module _ (img area : List ℕ) (bytes : Bytes img) (ok : is_ok (load_of img area) ≡ true) where
   abbrev ks : List Kind
   ks = table_in img
 
@@ -125,14 +125,14 @@ module _ (img area : List ℕ) (bytes : Bytes img) (ok : (load_of img area).verd
   roomy : length area ≡ 98048
   roomy = (loaded-whole img area ok).0
 
-  whole : verdict_of img ≡ Whole
+  whole : verdict_of img ≡ Ok tt
   whole = (loaded-whole img area ok).1
 
   image : Imaged img
   image = whole_is img whole
 
-  book-is : (load_of img area).book ≡ book_of ks l
-  book-is = ap (λ (r : Loaded). r.book) (loaded-book img area roomy whole)
+  book-is : (loaded (load_of img area)) ≡ book_of ks l
+  book-is = ap loaded (loaded-book img area roomy whole)
 
   abbrev filled : List ℕ
   filled = restored_area img area
@@ -169,7 +169,7 @@ module _ (img area : List ℕ) (bytes : Bytes img) (ok : (load_of img area).verd
     sound = rw (holds ks l) filled-sound;
   }
 
-  pub accepted-storable : Storable (load_of img area).book (load_area img area)
+  pub accepted-storable : Storable (loaded (load_of img area)) (load_area img area)
   accepted-storable = rw (book-is, area-was) restored-storable
 
   restored-image : image_of (book_of ks l) filled ≡ img
@@ -178,7 +178,7 @@ module _ (img area : List ℕ) (bytes : Bytes img) (ok : (load_of img area).verd
       ∙ ap (λ (s : List ℕ). sealed (body_of ks l s)) slots-were
       ∙ sym (image-is img bytes image)
 
-  pub accepted-image : img ≡ image_of (load_of img area).book (load_area img area)
+  pub accepted-image : img ≡ image_of (loaded (load_of img area)) (load_area img area)
   accepted-image = sym ((λ i. image_of (book-is i) (area-was i)) ∙ restored-image)
 
 -- ---- '`load` accepts exactly the images that `save` can write'
@@ -192,28 +192,31 @@ pub record Image (img : List ℕ) : Type 0 where
   pub is : img ≡ image_of book area
 
 module _ (img area : List ℕ) (bytes : Bytes img) (lent : Bytes area) (roomy : length area ≡ 98048) where
-  was-saved : (load_of img area).verdict ≡ Whole → Image img
+  was-saved : is_ok (load_of img area) ≡ true → Image img
   was-saved ok = record {
-    book = (load_of img area).book;
+    book = (loaded (load_of img area));
     area = load_area img area;
     bytes = rw (area-was img area bytes ok) (poured-bytes (entries_in img) (drop (64 + count_in img * 6) img) area (bytes_drop (64 + count_in img * 6) img bytes) lent);
     store = accepted-storable img area bytes ok;
     is = accepted-image img area bytes ok;
   }
 
-  is-loaded : Image img → (load_of img area).verdict ≡ Whole
-  is-loaded i = ap (λ (z : List ℕ). (load_of z area).verdict) i.is ∙ ap (λ (r : Loaded). r.verdict) (load-save i.book i.area i.store area roomy)
+  is-loaded : Image img → is_ok (load_of img area) ≡ true
+  is-loaded i = ap (λ (z : List ℕ). is_ok (load_of z area)) i.is ∙ ap (λ (r : Result Book Flaw). is_ok r) (load-save i.book i.area i.store area roomy)
 
-  pub accepts-exactly : ((load_of img area).verdict ≡ Whole → Image img) × (Image img → (load_of img area).verdict ≡ Whole)
+  pub accepts-exactly : (is_ok (load_of img area) ≡ true → Image img) × (Image img → is_ok (load_of img area) ≡ true)
   accepts-exactly = (was-saved, is-loaded)
 
 -- .. and leaves what was lent untouched where it accepts nothing
-pub refused-untouched : (img area : List ℕ) → is_whole (load_of img area).verdict ≡ false → (load_area img area ≡ area) × ((load_of img area).book ≡ book_of no_kinds [])
+refused-flaw : (img area : List ℕ) (v : Result ⊤ Flaw) → verdict_of img ≡ v → is_ok (handed v (restored img)) ≡ false → eqb (length area) 98048 ≡ true
+    → (load_area img area ≡ area) × (loaded (load_of img area) ≡ book_of no_kinds [])
 unfolding load_of load_area
-refused-untouched img area e =
-    split (eqb (length area) 98048)
-    (λ t. split (is_whole (verdict_of img)) (λ u. clash true refl (rw (t, u) at e)) (λ u. (rw (t, u), rw (t, u))))
-    (λ t. (rw t, rw t))
+refused-flaw img area (Ok u) f e t = clash true refl e
+refused-flaw img area (Err x) f e t = (rw (t, f), rw (t, f))
+
+pub refused-untouched : (img area : List ℕ) → is_ok (load_of img area) ≡ false → (load_area img area ≡ area) × (loaded (load_of img area) ≡ book_of no_kinds [])
+unfolding load_of load_area
+refused-untouched img area e = split (eqb (length area) 98048) (λ t. refused-flaw img area (verdict_of img) refl (rw t at e) t) (λ t. (rw t, rw t))
 
 -- ---- an image is bytes
 
@@ -236,7 +239,7 @@ module _ (b : Book) (area : List ℕ) (st : Storable b area) (bytes : Bytes area
 -- ---- 'A single changed byte anywhere in the file is seen'
 
 -- two images that differ in one byte at most are the same
-pub one_byte : (p q : List ℕ) (x y : ℕ) → x < 256 → y < 256 → verdict_of (p ++ x ∷ q) ≡ Whole → verdict_of (p ++ y ∷ q) ≡ Whole → x ≡ y
+pub one_byte : (p q : List ℕ) (x y : ℕ) → x < 256 → y < 256 → verdict_of (p ++ x ∷ q) ≡ Ok tt → verdict_of (p ++ y ∷ q) ≡ Ok tt → x ≡ y
 one_byte p q x y bx by vx vy = same_byte p q x y (whole_is (p ++ x ∷ q) vx).sum (whole_is (p ++ y ∷ q) vy).sum bx by
 
 -- a saved store with one byte changed, wherever it stands, is refused
@@ -244,11 +247,11 @@ module _ (b : Book) (area : List ℕ) (st : Storable b area) (bytes : Bytes area
   was : x < 256
   was = rw (is, get_or-append_seam p x q 0) at (image-bytes b area st bytes (length p))
 
-  pub changed-byte : is_whole (verdict_of (p ++ y ∷ q)) ≡ false
+  pub changed-byte : is_ok (verdict_of (p ++ y ∷ q)) ≡ false
   changed-byte =
-      split (is_whole (verdict_of (p ++ y ∷ q)))
+      split (is_ok (verdict_of (p ++ y ∷ q)))
       (λ t. absurd (other (one_byte p q x y was byte (ap verdict_of (sym is) ∙ saved-whole b area st) (whole-alone (verdict_of (p ++ y ∷ q)) t))))
       (λ t. t)
 
-  pub changed-refused : (area₀ : List ℕ) → is_whole (load_of (p ++ y ∷ q) area₀).verdict ≡ false
+  pub changed-refused : (area₀ : List ℕ) → is_ok (load_of (p ++ y ∷ q) area₀) ≡ false
   changed-refused area₀ = loaded-not (p ++ y ∷ q) area₀ changed-byte

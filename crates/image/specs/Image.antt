@@ -1,16 +1,13 @@
 -- The store as bytes: what `save` writes, and what `load` gives back.
-use Rattle.std.specs.Prelude.{◌*◌, ◌+◌, ℕ, Bool, cond, false, not, true, List, [], ◌∷◌, eqb, ltb, drop, length, take}
+use Rattle.std.specs.Prelude.{◌*◌, ◌+◌, ℕ, cond, not, List, [], ◌∷◌, eqb, ltb, drop, length, take, Option, Some, None, Result, Ok, Err, is_ok, ⊤}
 use Rattle.book.specs.Book.{Lawful, book_of, entries_of, no_kinds, view_of}
 use Rattle.book.specs.declared.Book.{Book}
 use Rattle.book.specs.declared.Entry.{Entry}
 use Rattle.files.specs.Sound.{Sound}
-use Rattle.image.specs.declared.Loaded.{Loaded}
-use Rattle.image.specs.declared.Saved.{Saved}
-use Rattle.image.specs.declared.Saved.TheVariants.{Small, Wrote}
 use Rattle.layout.specs.Judged.{count_in, entries_in, table_in, verdict_of}
 use Rattle.layout.specs.Layout.{body_of, flat, sealed, size_of}
-use Rattle.layout.specs.declared.Verdict.{Verdict}
-use Rattle.layout.specs.declared.Verdict.TheVariants.{Area, Bent, Cut, Foreign, Sum, Version, Whole}
+use Rattle.layout.specs.declared.Flaw.{Flaw}
+use Rattle.layout.specs.declared.Flaw.TheVariants.{Area}
 use Rattle.lists.specs.Lists.{checks, onto}
 use Rattle.slots.specs.Slots.{put, window}
 
@@ -32,51 +29,43 @@ abbrev pub image_of : Book → List ℕ → List ℕ
 image_of b area = sealed (body_of b.kinds (entries_of b) (flat (slot_bytes area) (entries_of b)))
 
 -- what `save` answers, and what the lent buffer then holds
-abbrev pub saved_of : Book → List ℕ → Saved
-saved_of b out = cond (ltb (length out) (size_of (length (entries_of b)))) Small (Wrote (size_of (length (entries_of b))))
+abbrev pub saved_of : Book → List ℕ → Option ℕ
+saved_of b out = cond (ltb (length out) (size_of (length (entries_of b)))) None (Some (size_of (length (entries_of b))))
 
 abbrev pub saved_in : Book → List ℕ → List ℕ → List ℕ
 saved_in b area out = cond (ltb (length out) (size_of (length (entries_of b)))) out (onto (image_of b area) out)
 
 -- ---- loaded
 
-abbrev pub is_whole : Verdict → Bool
-is_whole Whole = true
-is_whole Foreign = false
-is_whole Version = false
-is_whole Cut = false
-is_whole Sum = false
-is_whole Bent = false
-is_whole Area = false
-
 -- slots that stand one behind the other, each into the slot of its entry
 abbrev pub poured : List Entry → List ℕ → List ℕ → List ℕ
 poured [] slots area = area
 poured (x ∷ l) slots area = poured l (drop 383 slots) (put area x.slot (take 383 slots))
 
--- refused: a book without files
-abbrev pub refused : Verdict → Loaded
-refused v = record { verdict = v; book = book_of no_kinds [] }
+-- a judgement passed on: the book where nothing is wrong
+abbrev pub handed : Result ⊤ Flaw → Book → Result Book Flaw
+handed (Ok u) b = Ok b
+handed (Err e) b = Err e
 
-abbrev pub restored : List ℕ → Loaded
-restored img = record { verdict = Whole; book = book_of (table_in img) (entries_in img) }
+-- the book to go on with: that of the image, and one without files where it was refused
+abbrev pub loaded : Result Book Flaw → Book
+loaded (Ok b) = b
+loaded (Err e) = book_of no_kinds []
+
+abbrev pub restored : List ℕ → Book
+restored img = book_of (table_in img) (entries_in img)
 
 abbrev pub restored_area : List ℕ → List ℕ → List ℕ
 restored_area img area = poured (entries_in img) (drop (64 + count_in img * 6) img) area
 
 -- what `load` answers, and what the lent area then holds: 'everything else is refused and leaves what was lent untouched'
-unfoldable pub load_of : List ℕ → List ℕ → Loaded
-load_of img area =
-    checks
-    ((not (eqb (length area) 98048), refused Area)
-    ∷ (not (is_whole (verdict_of img)), refused (verdict_of img))
-    ∷ [])
-    (restored img)
+unfoldable pub load_of : List ℕ → List ℕ → Result Book Flaw
+load_of img area = checks ((not (eqb (length area) 98048), Err Area) ∷ []) (handed (verdict_of img) (restored img))
 
 unfoldable pub load_area : List ℕ → List ℕ → List ℕ
 load_area img area =
     checks
     ((not (eqb (length area) 98048), area)
-    ∷ (not (is_whole (verdict_of img)), area)
+    ∷ (not (is_ok (verdict_of img)), area)
     ∷ [])
     (restored_area img area)

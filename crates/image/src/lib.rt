@@ -13,7 +13,7 @@
 
 ghost use Rattle.std.specs.Prelude.{◌*◌, ◌+◌, ◌<◌, ◌≤◌, [], ◌≡◌, drop, length};
 ghost use Rattle.book.specs.Book.{Limits, Shaped, book_of, entries_of};
-ghost use Rattle.image.specs.Image.{Storable, is_whole, load_area, load_of, poured, refused, saved_in, saved_of, slot_bytes};
+ghost use Rattle.image.specs.Image.{Storable, load_area, load_of, poured, saved_in, saved_of, slot_bytes};
 ghost use Rattle.layout.specs.Judged.{count_in, entries_in, table_in};
 ghost use Rattle.layout.specs.Layout.{entry_bytes, flat, kind_bytes, size_of};
 ghost use Rattle.lists.specs.Lists.{All, over};
@@ -21,21 +21,7 @@ ghost use Rattle.slots.specs.Slots.{put as put_slot};
 ghost use Rattle.tapa.specs.Numbers.{two_bytes};
 
 use book::{Book, Entry, Kind};
-use layout::Verdict;
-
-// How many bytes were written, or that the buffer has no room for them.
-#[derive(Clone, Copy)]
-pub enum Saved {
-    Wrote(usize),
-    Small,
-}
-
-// What the bytes are, and the book in them; a book without files where they are refused.
-#[derive(Clone, Copy)]
-pub struct Loaded {
-    pub verdict: Verdict,
-    pub book: Book,
-}
+use layout::Flaw;
 
 // ---- writing
 
@@ -109,15 +95,16 @@ fn put_slots(out: &mut [u8], from: usize, b: Book, area: &[u8])
     }
 }
 
-// The image of a store, into a lent buffer. Where it has no room, the buffer stays as it was.
-pub fn save(b: Book, area: &[u8], out: &mut [u8]) -> Saved
+// The image of a store, into a lent buffer: how many bytes it has. Where the buffer has no room for
+// them, there is none, and the buffer stays as it was.
+pub fn save(b: Book, area: &[u8], out: &mut [u8]) -> Option<usize>
     requires { Storable b area.now }
     ensures { (result ≡ saved_of b out.old) × (out.new ≡ saved_in b area.now out.old) }
 {
     let n = store_entries::held(b);
     let size = 68 + n * 389;
     if out.len() < size {
-        return Saved::Small;
+        return None;
     }
     put(out, 0, b"kiosk store 1\n");
     put_kinds(out, b);
@@ -128,33 +115,10 @@ pub fn save(b: Book, area: &[u8], out: &mut [u8]) -> Saved
     let sums = adler::checksum(&out[0..end]);
     put_word(out, end, sums.high);
     put_word(out, end + 2, sums.low);
-    Saved::Wrote(size)
+    Some(size)
 }
 
 // ---- reading
-
-pub fn is_whole(verdict: Verdict) -> bool
-    ensures { result ≡ is_whole verdict }
-{
-    match verdict {
-        Verdict::Whole => true,
-        Verdict::Foreign => false,
-        Verdict::Version => false,
-        Verdict::Cut => false,
-        Verdict::Sum => false,
-        Verdict::Bent => false,
-        Verdict::Area => false,
-    }
-}
-
-fn refusal(verdict: Verdict) -> Loaded
-    ensures { result ≡ refused verdict }
-{
-    Loaded {
-        verdict,
-        book: store_entries::fresh(),
-    }
-}
 
 // A book with the files of an image, and no record.
 fn with_kinds(img: &[u8]) -> Book
@@ -201,19 +165,13 @@ fn pour(img: &[u8], area: &mut [u8])
 }
 
 // The store of an image, into a lent area of 98,048 bytes. Where it is refused, the area stays as it was.
-pub fn load(img: &[u8], area: &mut [u8]) -> Loaded
+pub fn load(img: &[u8], area: &mut [u8]) -> Result<Book, Flaw>
     ensures { (result ≡ load_of img.now area.old) × (area.new ≡ load_area img.now area.old) }
 {
     if area.len() != 98048 {
-        return refusal(Verdict::Area);
+        return Err(Flaw::Area);
     }
-    let verdict = layout::judge(img);
-    if !is_whole(verdict) {
-        return refusal(verdict);
-    }
+    layout::judge(img)?;
     pour(img, area);
-    Loaded {
-        verdict,
-        book: book_in(img),
-    }
+    Ok(book_in(img))
 }

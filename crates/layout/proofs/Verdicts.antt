@@ -1,5 +1,6 @@
--- Which bytes are images: `Whole` is said of them just where the first line, the length, the checksum and what they hold are right.
+-- Which bytes are images: `Ok` is said of them just where the first line, the length, the checksum and what they hold are right.
 use Prim.Native.Nat.{◌-◌, ℕ, ◌≤◌}
+use Rattle.std.specs.Prelude.{Result, Ok, Err, ⊤}
 use mathlib.Core.Bool.{◌&&◌, Bool, false, not, true}
 use mathlib.Core.List.{◌++◌, List, [], ◌∷◌}
 use mathlib.Core.Path.{ap, refl, sym, ◌∙◌, ◌≡◌}
@@ -11,8 +12,8 @@ use borrow.Author.Tests.{eq-eqb, eqb-true, le-leb, le-ltb, leb-true, ltb-false, 
 use Rattle.adler.specs.Adler.{adler32}
 use Rattle.layout.specs.Judged.{count_in, entries_in, fits, is_named, is_version, slots_in, sound, sum_fits, table_fits, table_in, verdict_of}
 use Rattle.layout.specs.Layout.{name, size_of, sum_bytes, version}
-use Rattle.layout.specs.declared.Verdict.{Verdict}
-use Rattle.layout.specs.declared.Verdict.TheVariants.{Bent, Cut, Foreign, Sum, Version, Whole}
+use Rattle.layout.specs.declared.Flaw.{Flaw}
+use Rattle.layout.specs.declared.Flaw.TheVariants.{Bent, Cut, Foreign, Sum, Version}
 use Rattle.lists.proofs.Parts.{part-within}
 use Rattle.lists.proofs.Same.{same-eq, same-yes}
 use Rattle.lists.proofs.Tests.{and_yes, checks-are, checks-last, differ}
@@ -27,7 +28,7 @@ pub record Imaged (img : List ℕ) : Type 0 where
   pub few : count_in img ≤ 256
   pub good : sound (table_in img) (entries_in img) (slots_in img) ≡ true
 
--- ---- `Whole` says just this
+-- ---- `Ok` says just this
 
 module _ (img : List ℕ) (n : 68 ≤ length img) where
   name-all : take (length img) name ≡ name
@@ -46,18 +47,18 @@ module _ (img : List ℕ) (n : 68 ≤ length img) where
   line-version e = same-yes (take 2 (drop 12 img)) version (sym (part-within 12 2 14 img (omega arith)) ∙ ap (λ (l : List ℕ). take 2 (drop 12 l)) e)
 
 -- the tests in their order, each with what is said where it passes
-abbrev tests : List ℕ → List (Bool × Verdict)
+abbrev tests : List ℕ → List (Bool × Result ⊤ Flaw)
 tests img =
-    (not (is_named img), Foreign)
-    ∷ (ltb (length img) 14, Cut)
-    ∷ (not (is_version img), Version)
-    ∷ (ltb (length img) 68, Cut)
-    ∷ (not (eqb (length img) (size_of (count_in img))), Cut)
-    ∷ (not (sum_fits img), Sum)
-    ∷ (not (fits img), Bent)
+    (not (is_named img), Err Foreign)
+    ∷ (ltb (length img) 14, Err Cut)
+    ∷ (not (is_version img), Err Version)
+    ∷ (ltb (length img) 68, Err Cut)
+    ∷ (not (eqb (length img) (size_of (count_in img))), Err Cut)
+    ∷ (not (sum_fits img), Err Sum)
+    ∷ (not (fits img), Err Bent)
     ∷ []
 
-all-failed : (img : List ℕ) → All (λ (t : Bool × Verdict). t.0 ≡ false) (tests img) → Imaged img
+all-failed : (img : List ℕ) → All (λ (t : Bool × Result ⊤ Flaw). t.0 ≡ false) (tests img) → Imaged img
 all-failed img t =
     let n : 68 ≤ length img = ltb-false (length img) 68 t.1.1.1.0 in
     let p = and_yes (table_fits img) (leb (count_in img) 256 && sound (table_in img) (entries_in img) (slots_in img)) (not-false (fits img) t.1.1.1.1.1.1.0) in
@@ -71,14 +72,14 @@ all-failed img t =
       good = q.1;
     }
 
-pub whole_is : (img : List ℕ) → verdict_of img ≡ Whole → Imaged img
+pub whole_is : (img : List ℕ) → verdict_of img ≡ Ok tt → Imaged img
 unfolding verdict_of
 whole_is img =
-    checks-are (λ (v : Verdict). v ≡ Whole → Imaged img) (tests img) Whole
+    checks-are (λ (v : Result ⊤ Flaw). v ≡ Ok tt → Imaged img) (tests img) (Ok tt)
     (λ e. differ (cc), (λ e. differ (cc), (λ e. differ (cc), (λ e. differ (cc), (λ e. differ (cc), (λ e. differ (cc), (λ e. differ (cc), tt)))))))
     (λ t e. all-failed img t)
 
-pub is-whole : (img : List ℕ) → Imaged img → verdict_of img ≡ Whole
+pub is-whole : (img : List ℕ) → Imaged img → verdict_of img ≡ Ok tt
 unfolding verdict_of
 is-whole img f =
     let n : 68 ≤ length img = omega (arith, f.long) in
@@ -87,5 +88,5 @@ is-whole img f =
     let long = eq-eqb (length img) (size_of (count_in img)) f.long in
     let sum : sum_fits img ≡ true = same-yes (drop (length img - 4) img) (sum_bytes (adler32 (take (length img - 4) img))) f.sum in
     let held : fits img ≡ true = rw (f.table, le-leb (count_in img) 256 f.few) f.good in
-    checks-last (tests img) Whole
+    checks-last (tests img) (Ok tt)
     (rw named refl, (le-ltb (length img) 14 (omega arith), (rw versed refl, (le-ltb (length img) 68 n, (rw long refl, (rw sum refl, (rw held refl, tt)))))))

@@ -1,12 +1,12 @@
 -- What stands in an image, and which lists of bytes are images.
-use Rattle.std.specs.Prelude.{◌*◌, ◌+◌, ◌-◌, suc, zero, ℕ, Bool, ◌&&◌, ◌||◌, false, not, true, List, [], ◌∷◌, eqb, leb, ltb, drop, get_or, length, take}
+use Rattle.std.specs.Prelude.{◌*◌, ◌+◌, ◌-◌, suc, zero, ℕ, Bool, ◌&&◌, ◌||◌, false, not, true, List, [], ◌∷◌, eqb, leb, ltb, drop, get_or, length, take, Result, Ok, Err, ⊤}
 use Rattle.adler.specs.Adler.{adler32}
 use Rattle.book.specs.Book.{kind_of, no_entry}
 use Rattle.book.specs.declared.Entry.{Entry}
 use Rattle.book.specs.declared.Kind.{Kind}
 use Rattle.layout.specs.Layout.{name, size_of, sum_bytes, version}
-use Rattle.layout.specs.declared.Verdict.{Verdict}
-use Rattle.layout.specs.declared.Verdict.TheVariants.{Bent, Cut, Foreign, Sum, Version, Whole}
+use Rattle.layout.specs.declared.Flaw.{Flaw}
+use Rattle.layout.specs.declared.Flaw.TheVariants.{Bent, Cut, Foreign, Sum, Version}
 use Rattle.lists.specs.Least.{same}
 use Rattle.lists.specs.Lists.{checks}
 use Rattle.tapa.specs.Numbers.{word_at}
@@ -130,15 +130,15 @@ sum_fits img = same (drop (length img - 4) img) (sum_bytes (adler32 (take (lengt
 
 -- ---- the verdict: what is wrong first
 
-unfoldable pub verdict_of : List ℕ → Verdict
+unfoldable pub verdict_of : List ℕ → Result ⊤ Flaw
 verdict_of img =
     checks
-    ((not (is_named img), Foreign)
-    ∷ (ltb (length img) 14, Cut)
-    ∷ (not (is_version img), Version)
-    ∷ (ltb (length img) 68, Cut)
-    ∷ (not (eqb (length img) (size_of (count_in img))), Cut)
-    ∷ (not (sum_fits img), Sum)
-    ∷ (not (fits img), Bent)
+    ((not (is_named img), Err Foreign)
+    ∷ (ltb (length img) 14, Err Cut)
+    ∷ (not (is_version img), Err Version)
+    ∷ (ltb (length img) 68, Err Cut)
+    ∷ (not (eqb (length img) (size_of (count_in img))), Err Cut)
+    ∷ (not (sum_fits img), Err Sum)
+    ∷ (not (fits img), Err Bent)
     ∷ [])
-    Whole
+    (Ok tt)

@@ -23,12 +23,12 @@ ghost use Rattle.lists.specs.Least.{same};
 
 use book::{Entry, Kind};
 
-// What some bytes are: the image of a store; no image; one of another version; one that is cut short
-// or has bytes behind its end; one whose checksum is not that of its bytes; one that holds what no
-// store can hold. `Area` is of the memory that was lent to read it into, which has another size.
-#[derive(Clone, Copy)]
-pub enum Verdict {
-    Whole,
+// What is wrong with bytes that are not the image of a store: they are no image; one of another
+// version; one that is cut short or has bytes behind its end; one whose checksum is not that of its
+// bytes; one that holds what no store can hold. `Area` is of the memory that was lent to read it into,
+// which has another size.
+#[derive(Clone, Copy, PartialEq, Eq)]
+pub enum Flaw {
     Foreign,
     Version,
     Cut,
@@ -232,30 +232,30 @@ fn sum_fits(img: &[u8]) -> bool
     octets::same(&img[n..], &[a, b, c, d])
 }
 
-// Says what some bytes are. The checks in their order: the first that fails decides.
-pub fn judge(img: &[u8]) -> Verdict
+// Whether some bytes are the image of a store. The checks in their order: the first that fails decides.
+pub fn judge(img: &[u8]) -> Result<(), Flaw>
     ensures { result ≡ verdict_of img.now }
 {
     if !agree(img, b"kiosk store ") {
-        return Verdict::Foreign;
+        return Err(Flaw::Foreign);
     }
     if img.len() < 14 {
-        return Verdict::Cut;
+        return Err(Flaw::Cut);
     }
     if !octets::same(&img[12..14], b"1\n") {
-        return Verdict::Version;
+        return Err(Flaw::Version);
     }
     if img.len() < 68 {
-        return Verdict::Cut;
+        return Err(Flaw::Cut);
     }
     if img.len() != 68 + held(img) * 389 {
-        return Verdict::Cut;
+        return Err(Flaw::Cut);
     }
     if !sum_fits(img) {
-        return Verdict::Sum;
+        return Err(Flaw::Sum);
     }
     if !is_fit(img) {
-        return Verdict::Bent;
+        return Err(Flaw::Bent);
     }
-    Verdict::Whole
+    Ok(())
 }

@@ -1,5 +1,6 @@
 -- The image that is kept last: it was saved, and copied to its buffer; or it was there at the start. Assumes nothing.
 use Prim.Native.Nat.{◌+◌, ◌-◌, ◌≤◌, ℕ}
+use Rattle.std.specs.Prelude.{Some, None, Result, Ok, is_ok}
 use mathlib.Core.Bool.{true}
 use mathlib.Core.List.{◌++◌, List, []}
 use mathlib.Core.Path.{◌≡◌, ap, sym, ◌∙◌}
@@ -10,29 +11,26 @@ use lib.Seq.{take_at, take-length}
 use borrow.Author.Tests.{ltb-false}
 use Rattle.book.specs.Book.{book_of, entries_of, no_kinds}
 use Rattle.book.specs.declared.Book.{Book}
-use Rattle.image.proofs.Loads.{whole-alone}
 use Rattle.image.proofs.Trips.{accepted-image, accepted-storable, image-long, image-small}
-use Rattle.image.specs.Image.{Storable, image_of, is_whole, load_area, load_of, saved_in, saved_of}
-use Rattle.image.specs.declared.Loaded.{Loaded}
-use Rattle.image.specs.declared.Saved.TheVariants.{Small, Wrote}
+use Rattle.image.specs.Image.{Storable, image_of, load_area, load_of, loaded, saved_in, saved_of}
 use Rattle.io.proofs.Counting.{prefix_len_of_le}
 use Rattle.layout.specs.Layout.{size_of}
-use Rattle.layout.specs.declared.Verdict.TheVariants.{Whole}
+use Rattle.layout.specs.declared.Flaw.{Flaw}
 use Rattle.lists.proofs.Tests.{differ, split}
 use Rattle.lists.specs.Lists.{Bytes}
 use Rattle.records.specs.Records.{Room}
 use Rattle.store.proofs.Kept.{fresh-lawful, fresh-sound}
 
 -- bytes that were saved: they stand at the start of their buffer, and are the image
-pub saved : (b : Book) (area out new : List ℕ) (n : ℕ) → Storable b area → Wrote n ≡ saved_of b out → new ≡ saved_in b area out
+pub saved : (b : Book) (area out new : List ℕ) (n : ℕ) → Storable b area → Some n ≡ saved_of b out → new ≡ saved_in b area out
     → (n ≤ length new) × (length (take n new) ≤ 99652) × (take n new ≡ image_of b area)
 saved b area out new n st w s =
     let z : ℕ = size_of (length (entries_of b)) in
     let long : length (image_of b area) ≡ z = image-long b area st in
     split (ltb (length out) z)
-    (λ t. let q : Wrote n ≡ Small = rw t at w in differ cc)
+    (λ t. let q : Some n ≡ None = rw t at w in differ cc)
     (λ t.
-    let q : Wrote n ≡ Wrote z = rw t at w in
+    let q : Some n ≡ Some z = rw t at w in
     let m : n ≡ z = cc in
     let room : z ≤ length out = ltb-false (length out) z t in
     let e : new ≡ image_of b area ++ drop (length (image_of b area)) out = rw t at s in
@@ -53,8 +51,9 @@ pub fresh-storable : (b : Book) (area : List ℕ) → b ≡ book_of no_kinds [] 
 fresh-storable b area e h = rw e (record { law = fresh-lawful area h; sound = fresh-sound area })
 
 -- the store of an image, and its image
-pub resumed : (img area area' : List ℕ) (g : Loaded) → Bytes img → g ≡ load_of img area → area' ≡ load_area img area → is_whole g.verdict ≡ true
-    → Storable g.book area' × (img ≡ image_of g.book area')
-resumed img area area' g bytes e f w =
-    let ok : (load_of img area).verdict ≡ Whole = ap (λ (r : Loaded). r.verdict) (sym e) ∙ whole-alone g.verdict w in
-    (rw (e, f) (accepted-storable img area bytes ok), rw (e, f) (accepted-image img area bytes ok))
+pub resumed : (img area area' : List ℕ) (b : Book) → Bytes img → Ok b ≡ load_of img area → area' ≡ load_area img area
+    → Storable b area' × (img ≡ image_of b area')
+resumed img area area' b bytes e f =
+    let ok : is_ok (load_of img area) ≡ true = sym (ap (λ (r : Result Book Flaw). is_ok r) e) in
+    let was : b ≡ loaded (load_of img area) = ap loaded e in
+    (rw (was, f) (accepted-storable img area bytes ok), rw (was, f) (accepted-image img area bytes ok))

@@ -14,8 +14,7 @@ ghost use Rattle.image.specs.Image.{Storable, image_of};
 ghost use Rattle.records.specs.Records.{Held, Keeps, Room, Turned};
 
 use book::Book;
-use image::Saved;
-use layout::Verdict;
+use layout::Flaw;
 use std::env::{Env, FillError};
 use std::io::Print;
 use vault::Kept;
@@ -79,20 +78,19 @@ fn say_busy(rt: HostRuntime, path: &[u8], process: usize) {
     inputs::tell(rt, b"1");
 }
 
-// Says what is wrong with bytes that are no whole image.
-fn say_flaw(rt: HostRuntime, path: &[u8], verdict: Verdict) {
-    match verdict {
-        Verdict::Whole => {}
-        Verdict::Area => {}
-        Verdict::Foreign => say(rt, path, b"it is no image of a data store"),
-        Verdict::Version => say(rt, path, b"it is an image of another version"),
-        Verdict::Cut => say(rt, path, b"it is cut short, or has bytes behind its end"),
-        Verdict::Sum => say(
+// Says what is wrong with bytes that are no image.
+fn say_flaw(rt: HostRuntime, path: &[u8], flaw: Flaw) {
+    match flaw {
+        Flaw::Area => {}
+        Flaw::Foreign => say(rt, path, b"it is no image of a data store"),
+        Flaw::Version => say(rt, path, b"it is an image of another version"),
+        Flaw::Cut => say(rt, path, b"it is cut short, or has bytes behind its end"),
+        Flaw::Sum => say(
             rt,
             path,
             b"its bytes are not those that were written: the checksum differs",
         ),
-        Verdict::Bent => say(
+        Flaw::Bent => say(
             rt,
             path,
             b"its checksum is right, but it holds what no store can hold",
@@ -199,8 +197,8 @@ fn keep(
 {
     let mut next = image_buffer();
     match image::save(b, area, &mut next) {
-        Saved::Small => Keeping { done: false, size },
-        Saved::Wrote(n) => keep_image(rt, path, locked, &next[..n], last, size),
+        None => Keeping { done: false, size },
+        Some(n) => keep_image(rt, path, locked, &next[..n], last, size),
     }
 }
 
@@ -303,13 +301,9 @@ fn begin(rt: HostRuntime, path: &[u8], locked: bool, area: &mut [u8], last: &mut
 fn resume(rt: HostRuntime, path: &[u8], locked: bool, area: &mut [u8], last: &mut [u8], size: usize)
     requires { Room last.old size }
 {
-    let loaded = image::load(&last[..size], area);
-    let verdict = loaded.verdict;
-    let book = loaded.book;
-    if image::is_whole(verdict) {
-        show_inputs(rt, path, locked, book, area, last, size);
-    } else {
-        say_flaw(rt, path, verdict);
+    match image::load(&last[..size], area) {
+        Ok(book) => show_inputs(rt, path, locked, book, area, last, size),
+        Err(flaw) => say_flaw(rt, path, flaw),
     }
 }
 
