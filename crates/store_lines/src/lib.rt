@@ -3,18 +3,19 @@
 // Lines are gathered into pages, as in room pages: a program keeps what a page tells on the disk, and
 // then prints the page. So a page ends before a command that may change the store, where only such
 // as read stand on it: these need not wait for the disk.
-#![tactic(auto)]
+#![tactic(auto, using(text::proofs::Calls::calls))]
 
 ghost use Rattle.std.specs.Prelude.{◌≡◌, Ok, Some};
 ghost use Rattle.fields.specs.Places.{step_at};
 ghost use Rattle.image.specs.Image.{Storable};
-ghost use Rattle.ledger.specs.Ledger.{Counted, Hearing, Paged, heard, is_broken, next_of, said_text};
-ghost use Rattle.text.specs.Text.{pen, puts};
+ghost use Rattle.ledger.specs.Ledger.{Counted, Hearing, Paged, heard, is_broken, next_of, said_line, said_text};
+ghost use Rattle.text.specs.Text.{Writes, pen, puts};
 
 use book::Book;
 use fields::NextStep;
 use ledger::{Cursor, Heard, Next, Page};
 use tapa::Refusal;
+use text::Writer;
 
 // The longest line has 809 bytes: five digits, ` reply `, 398 bytes as hex, and a line's end.
 const LINE: usize = 1024;
@@ -70,28 +71,40 @@ fn may_change(message: &[u8]) -> bool {
 // ---- the line of a message
 
 // The first n bytes of a reply.
-fn put_reply(page: &mut [u8], at: usize, reply: &[u8], n: usize) -> usize
-    ensures { pen page.new result ≡ puts (pen page.old at) (said_text (Ok (Some n)) reply.now) }
+#[tactic(auto, using(text::proofs::Calls::calls, std::proofs::lemmas::List::take_min))]
+fn put_reply(out: &mut Writer<'_>, reply: &[u8], n: usize)
+    ensures { Writes out.old out.new (said_text (Ok (Some n)) reply.now) }
 {
-    let a = text::put_all(page, at, b" reply ");
-    let k = if n < reply.len() { n } else { reply.len() };
-    text::put_all_hex(page, a, &reply[0..k])
+    out.put_all(b" reply ");
+    out.put_all_hex(&reply[..n.min(reply.len())]);
 }
 
-// What came of a message. The store never answers `Nothing`.
-fn put_said(page: &mut [u8], at: usize, answer: Result<Option<usize>, Refusal>, reply: &[u8]) -> usize
-    ensures { pen page.new result ≡ puts (pen page.old at) (said_text answer reply.now) }
+// What came of a message. The store never answers `None`.
+fn put_said(out: &mut Writer<'_>, answer: Result<Option<usize>, Refusal>, reply: &[u8])
+    ensures { Writes out.old out.new (said_text answer reply.now) }
 {
     match answer {
-        Ok(Some(n)) => put_reply(page, at, reply, n),
-        Err(refusal) => lines::put_number(
-            page,
-            at,
-            b" refused ",
-            tapa::number(refusal) as usize,
-        ),
-        Ok(None) => at,
+        Ok(Some(n)) => put_reply(out, reply, n),
+        Ok(None) => {}
+        Err(refusal) => out.put_number(b" refused ", usize::from(tapa::number(refusal))),
     }
+}
+
+// The line of a message, from a place on; the answer is the place behind it.
+fn put_line(
+    page: &mut [u8],
+    at: usize,
+    number: usize,
+    answer: Result<Option<usize>, Refusal>,
+    reply: &[u8],
+) -> usize
+    ensures { pen page.new result ≡ puts (pen page.old at) (said_line number answer reply.now) }
+{
+    let mut out = Writer::new(page, at);
+    out.put_decimal(number);
+    put_said(&mut out, answer, reply);
+    out.put(b'\n');
+    out.place()
 }
 
 // Hands a message to the store, and writes its line from a place on.
@@ -108,13 +121,9 @@ fn hear(
 {
     let mut reply = [0u8; 398];
     let handled = store_answers::handle(b, area, message, &mut reply);
-    let book = handled.next;
-    let answer = handled.answer;
-    let a = text::put_decimal(page, at, number);
-    let c = put_said(page, a, answer, &reply);
     Heard {
-        used: text::put(page, c, b'\n'),
-        book,
+        used: put_line(page, at, number, handled.answer, &reply),
+        book: handled.next,
     }
 }
 
