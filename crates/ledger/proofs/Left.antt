@@ -9,11 +9,10 @@ use Rattle.fields.proofs.Left.{StepInside, step-inside, steps-at}
 use Rattle.fields.specs.Places.{between, step_at, steps_at, steps_by}
 use Rattle.fields.specs.declared.NextStep.{NextStep}
 use Rattle.fields.specs.declared.NextStep.TheVariants.{Broken as BrokenStep, End as Ended, GiveUp, Message as MessageStep, Replaced}
-use Rattle.ledger.specs.Ledger.{Store, after, heard, is_broken, line_of, lines_of, next_of, store}
+use Rattle.ledger.specs.Ledger.{Store, after, heard, line_of, lines_of, next_of, store}
 use Rattle.ledger.specs.declared.Next.{Next}
 use Rattle.ledger.specs.declared.Next.TheVariants.{Broken, End, Message}
 use Rattle.lines.specs.Lines.{broken_line}
-use Rattle.lists.proofs.Tests.{clash}
 use Rattle.store.specs.Store.{Answered}
 
 -- from a place on, where a field of this number stands
@@ -77,16 +76,3 @@ inside-by s at Ended h = tt
 
 pub next-inside : (s : List ℕ) (at : ℕ) (x : Next) → x ≡ next_of (step_at s at) → NextInside s at x
 next-inside s at x e = rw e (inside-by s at (step_at s at) (step-inside s at))
-
--- ---- which answer it is
-
-pub is-broken : (x : Next) → is_broken x ≡ true → x ≡ Broken
-is-broken End e = clash false e refl
-is-broken Broken e = refl
-is-broken (Message a k) e = clash false e refl
-
--- no message, and not broken
-pub is-over : (x : Next) → ((a e : ℕ) → x ≡ Message a e → ⊥) → is_broken x ≡ false → x ≡ End
-is-over End h e = refl
-is-over Broken h e = clash true refl e
-is-over (Message a k) h e = absurd (h a k refl)

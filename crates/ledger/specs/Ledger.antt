@@ -92,11 +92,6 @@ next_of (Replaced x e) = Broken
 next_of BrokenStep = Broken
 next_of Ended = End
 
-abbrev pub is_broken : Next → Bool
-is_broken End = false
-is_broken Broken = true
-is_broken (Message a e) = false
-
 -- the next field's number is at most one more than the bytes before it, and an input has at most 65,536
 pub record Counted (c : Cursor) : Type 0 where
   pub number : c.number ≤ c.at + 1

@@ -8,7 +8,7 @@
 ghost use Rattle.std.specs.Prelude.{◌≡◌, Ok, Some};
 ghost use Rattle.fields.specs.Places.{step_at};
 ghost use Rattle.image.specs.Image.{Storable};
-ghost use Rattle.ledger.specs.Ledger.{Counted, Hearing, Paged, heard, is_broken, next_of, said_line, said_text};
+ghost use Rattle.ledger.specs.Ledger.{Counted, Hearing, Paged, heard, next_of, said_line, said_text};
 ghost use Rattle.text.specs.Text.{Writes, pen, puts};
 
 use book::Book;
@@ -35,27 +35,8 @@ fn next_at(input: &[u8], at: usize) -> Next
 {
     match fields::step_at(input, at) {
         NextStep::Message { start, next } => Next::Message { start, next },
-        NextStep::GiveUp {
-            thread: _,
-            address: _,
-            next: _,
-        } => Next::Broken,
-        NextStep::Replaced {
-            address: _,
-            next: _,
-        } => Next::Broken,
-        NextStep::Broken => Next::Broken,
+        NextStep::GiveUp { .. } | NextStep::Replaced { .. } | NextStep::Broken => Next::Broken,
         NextStep::End => Next::End,
-    }
-}
-
-fn is_broken(step: Next) -> bool
-    ensures { result ≡ is_broken step }
-{
-    match step {
-        Next::Broken => true,
-        Next::End => false,
-        Next::Message { start: _, next: _ } => false,
     }
 }
 
@@ -157,25 +138,26 @@ pub fn fill_page(b: Book, area: &mut [u8], cursor: Cursor, input: &[u8], page: &
         return page_of(book, at, number, used, 1, false);
     }
     while LINE <= page.len() - used {
-        let step = next_at(input, at);
-        if is_broken(step) {
-            used = lines::broken_line(page, used, number);
-            return page_of(book, at, number, used, count + 1, false);
+        match next_at(input, at) {
+            Next::End => return page_of(book, at, number, used, count, false),
+            Next::Broken => {
+                used = lines::broken_line(page, used, number);
+                return page_of(book, at, number, used, count + 1, false);
+            }
+            Next::Message { start, next } => {
+                let changes = may_change(&input[start..next]);
+                if changes && !changing && 0 < count {
+                    return page_of(book, at, number, used, count, true);
+                }
+                changing = changing || changes;
+                let heard = hear(book, area, &input[start..next], number, page, used);
+                book = heard.book;
+                used = heard.used;
+                at = next;
+                number += 1;
+                count += 1;
+            }
         }
-        let Next::Message { start, next } = step else {
-            return page_of(book, at, number, used, count, false);
-        };
-        let changes = may_change(&input[start..next]);
-        if changes && !changing && 0 < count {
-            return page_of(book, at, number, used, count, true);
-        }
-        changing = changing || changes;
-        let heard = hear(book, area, &input[start..next], number, page, used);
-        book = heard.book;
-        used = heard.used;
-        at = next;
-        number += 1;
-        count += 1;
     }
     page_of(book, at, number, used, count, true)
 }

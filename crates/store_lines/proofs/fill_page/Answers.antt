@@ -1,7 +1,7 @@
 -- Each step of the loop keeps the law of the page (`Going`), and each return ends it.
-use Rattle.std.proofs.Common.{◌∙◌, sym, arith}
+use Rattle.std.proofs.Common.{arith}
 use Rattle.ledger.proofs.Filling.{going, page-broken, page-full, page-long, page-over, page-parts, page-turn, turn-less}
-use Rattle.ledger.proofs.Left.{is-broken, is-over, next-inside}
+use Rattle.ledger.proofs.Left.{next-inside}
 use Rattle.ledger.specs.declared.Next.TheVariants.{Message}
 use Rattle.store_lines.proofs.fill_page.Goals as goal
 
@@ -16,17 +16,15 @@ loop-page-init c =
     let a = c.args in
     going a.input.now a.page.now a.area.now a.b a.cursor.at a.cursor.number c.requires.0 c.requires.1
 
-pub returns-then-is_broken : goal.returns-then-is_broken
-returns-then-is_broken c =
-    let e = is-broken c.next_at-step.result (sym c.if-is_broken.ensures) in
-    rw c.page_of-then-is_broken.ensures
-    (page-broken c.loop-page.invariant c.if-input-gt65536.false c.loop-page-test.true _ _ (sym e ∙ c.next_at-step.ensures) c.broken_line-used.ensures)
+pub returns-in-Broken : goal.returns-in-Broken
+returns-in-Broken c =
+    rw c.page_of-in-Broken.ensures
+    (page-broken c.loop-page.invariant c.if-input-gt65536.false c.loop-page-test.true _ _ c.in-Broken.ensures c.broken_line-used.ensures)
 
-pub returns-in_default : goal.returns-in_default
-returns-in_default c =
-    let e = is-over c.next_at-step.result c.in_default.not-Message (sym c.if-is_broken.ensures) in
-    rw c.page_of-in_default.ensures
-    (page-over c.loop-page.invariant c.if-input-gt65536.false (sym e ∙ c.next_at-step.ensures))
+pub returns-in-End : goal.returns-in-End
+returns-in-End c =
+    rw c.page_of-in-End.ensures
+    (page-over c.loop-page.invariant c.if-input-gt65536.false c.in-End.ensures)
 
 -- a message is within the input
 pub slice_bounds-may_change-end : goal.slice_bounds-may_change-end
