@@ -1,7 +1,7 @@
 -- The table of files: the row of a file, the first free one, and the law of a book with another table.
 use Prim.Native.Nat.{◌%◌, ◌+◌, ◌-◌, ◌<◌, suc, zero, ℕ, ◌≤◌}
 use Rattle.std.specs.Prelude.{Some}
-use mathlib.Core.Bool.{Bool, cond, false, true}
+use mathlib.Core.Bool.{Bool, cond, false, not, true}
 use mathlib.Core.List.{List, [], ◌∷◌}
 use mathlib.Core.Logic.{◌⊎◌, ⊎_elim}
 use mathlib.Core.Path.{ap, refl, sym, ◌∙◌, ◌≡◌}
@@ -10,11 +10,11 @@ use native.Mathlib.Numerals.{add-one}
 use Rattle.std.proofs.Common.{zero-add}
 use native.Mathlib.Omega.{arith}
 use lib.Dec.{ltb}
-use lib.ListN.{get_or-eq_default, drop, get_or, length, length-set, replicate, set}
-use lib.Seq.{drop-cons}
+use lib.ListN.{get_or-eq_default, get_or, length, length-set, replicate, set}
 use borrow.Author.Tests.{ltb-false, ltb-true}
 use Rattle.std.proofs.lemmas.List.Recursion.{is_count_by}
-use Rattle.std.specs.List.{count_by}
+use Rattle.std.proofs.lemmas.Iterator.Adapters.{position_from-zero}
+use Rattle.std.specs.List.{count_by, position, position_from}
 use Rattle.book.proofs.Laws.{lawful-of}
 use Rattle.book.specs.Book.{Lawful, Limits, book_of, created_at, free_kind, is_made, kind, kind_of, no_kind, no_kinds, with_kind, with_kinds}
 use Rattle.book.specs.declared.Book.{Book}
@@ -67,11 +67,14 @@ free-from n (suc k) (x ∷ ks) e =
 pub free-at : (ks : List Kind) (i : ℕ) → free_kind 0 ks ≡ Some i → Free ks i
 free-at ks i e = free-from 0 i ks (e ∙ ap Some (let m : i ≡ 0 + i = omega arith in m))
 
-pub free-hit : (ks : List Kind) (i : ℕ) → i < length ks → (get_or ks i no_kind).made ≡ false → free_kind i (drop i ks) ≡ Some i
-free-hit ks i h t = rw (drop-cons ks i no_kind h, t)
+-- the first that is not made, found by its place
+free-place : (n : ℕ) (ks : List Kind) → position_from (λ (k : Kind). not k.made) n ks ≡ free_kind n ks
+free-place n [] = refl
+free-place n (k ∷ ks) =
+    split k.made (λ t. rw t (ap (λ (m : ℕ). position_from (λ (x : Kind). not x.made) m ks) (add-one n) ∙ free-place (suc n) ks)) (λ t. rw t)
 
-pub free-miss : (ks : List Kind) (i : ℕ) → i < length ks → (get_or ks i no_kind).made ≡ true → free_kind (i + 1) (drop (i + 1) ks) ≡ free_kind i (drop i ks)
-free-miss ks i h t = sym (ap (free_kind i) (drop-cons ks i no_kind h) ∙ rw (t, add-one))
+pub free-first : (ks : List Kind) → position (λ (k : Kind). not k.made) ks ≡ free_kind 0 ks
+free-first ks = position_from-zero (λ (k : Kind). not k.made) ks ∙ free-place 0 ks
 
 -- ---- the fresh store is lawful: the law can be met
 pub fresh-law : (area : List ℕ) → length area ≡ 98048 → Lawful (book_of no_kinds []) area

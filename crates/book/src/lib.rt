@@ -11,6 +11,7 @@
 #![tactic(auto)]
 
 // A file's row in the table: whether it is made, and the longest key and data that it takes.
+// (Not an `Option`: a row that is not made may have limits, which an image brings back: image `accepted-image`.)
 #[derive(Clone, Copy, Default)]
 pub struct Kind {
     pub made: bool,
@@ -29,6 +30,7 @@ pub struct Entry {
 }
 
 // The row of file f stands at place f - 1.
+// (`Shaped` is no ghost field: `store_entries::emptied` takes any book, and `book_of` makes one of any lists.)
 #[derive(Clone, Copy)]
 pub struct Book {
     pub kinds: [Kind; 16],

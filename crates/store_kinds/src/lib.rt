@@ -10,7 +10,7 @@ ghost use Rattle.lists.specs.Lists.{count};
 
 use book::{Book, Created, Kind};
 
-// The row of a file; one that is not made for an identifier that is none.
+// The row of a file; one that is not made for an identifier that is none (no `Option`: book `kind_of`).
 pub fn kind_of(b: Book, f: u16) -> Kind
     requires { Shaped b }
     ensures { result ≡ kind_of b.kinds f }
@@ -46,15 +46,7 @@ fn free_kind(b: Book) -> Option<usize>
     requires { Shaped b }
     ensures { result ≡ free_kind 0 b.kinds }
 {
-    let mut i = 0;
-    while i < 16 {
-        let k = b.kinds[i];
-        if !k.made {
-            return Some(i);
-        }
-        i += 1;
-    }
-    None
+    b.kinds.iter().position(|k| !k.made)
 }
 
 // One file more, under the lowest free identifier; identifier 0 where 16 are there.
