@@ -81,6 +81,7 @@ fn left_of(b: Book, ids: &[u8]) -> Option<Book>
     ensures { result ≡ left_of b (ids_of ids.now) }
 {
     let mut left = b;
+    // By the place of a word, as `ids_of` counts them; chunks of two would have to be tied to these places.
     for i in 0..ids.len() / 2 {
         let f = tapa::pair(ids[i * 2], ids[i * 2 + 1]);
         if !store_kinds::kind_of(left, f).made {

@@ -1,11 +1,11 @@
 // The data store's commands that change records (section 11): Add, Update, Delete, Find and Delete.
 //
 // Each takes the book by value and the lent area, and answers the next book. What both then are is said in
-// specs/Records.antt; a command that fails answers its response code, and they are as they were. That this
-// is what the command does to a plain list of files is one theorem a command, in proofs/: Adds,
-// Updates, Deletes. Nothing of a deleted record stays in the area, and nothing of what an Update
-// replaced: proofs/Leaks.antt. That there is room exactly while fewer than 256 records are held: Adds,
-// `room-add`.
+// specs/Records.antt; a command that fails answers its response code, the number that goes on the wire, and
+// they are as they were. That this is what the command does to a plain list of files is one theorem a
+// command, in proofs/: Adds, Updates, Deletes. Nothing of a deleted record stays in the area, and nothing of
+// what an Update replaced: proofs/Leaks.antt. That there is room exactly while fewer than 256 records are
+// held: Adds, `room-add`.
 //
 // A command looks first at all that can fail; then it writes or wipes one slot. Add and Update walk the
 // entries once for the record and once for the key, and Add once each for the free pointer and for the

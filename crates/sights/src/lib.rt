@@ -1,8 +1,9 @@
 // What the data store shows (section 11): Get and Find, which change nothing.
 //
 // Get goes by a pointer and an orientation, Find by a key. The answer is the record's place in the
-// book, and the pointer that the response carries; or else the response code. That this is what the
-// command shows of a plain list of files is one theorem each: proofs/Sights.antt.
+// book, and the pointer that the response carries; or else the response code, which is the number that
+// the response carries (room tapa names them). That this is what the command shows of a plain list of
+// files is one theorem each: proofs/Sights.antt.
 //
 // Get walks the entries once: the look for the next record goes on from the place where the record
 // was found, and that for the previous one goes back from there.
@@ -83,6 +84,7 @@ fn missing(o: u8) -> u16
     }
 }
 
+// The orientation is the wire's byte: `get_of` answers each of the 256, and an enum would take four.
 pub fn get(b: Book, f: u16, p: u16, o: u8) -> Result<Got, u16>
     requires { Shaped b }
     ensures { result ≡ get_of b f p o }
