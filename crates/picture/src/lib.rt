@@ -17,6 +17,7 @@ use drawing::Forms;
 use run::{Session, Turn};
 
 // How many bytes of a page are used, whether it was full before the end was seen, and the next state.
+// `more` is no Option of the state: `Part` and `Pictured` name it and the state side by side.
 #[derive(Clone, Copy)]
 pub struct Page {
     pub used: usize,
@@ -40,7 +41,8 @@ pub fn count_rows(session: Session, input: &[u8]) -> usize
     }
 }
 
-// The row of a turn, from a place on. It is drawn from the states before and after it.
+// The row of a turn, from a place on. It is drawn from the states before and after it. The page and the
+// place are two parameters, and no writer: `Added` speaks of them, and `fill_page` answers the place.
 fn put_row(
     page: &mut [u8; 65536],
     at: usize,

@@ -11,6 +11,8 @@ ghost use Rattle.forms.specs.Forms.{form_text};
 
 use text::Writer;
 
+// Cells of the sheet. A form is numbers, of which the first is a cell and some of the others may be
+// (forms, `form_text`); so these are numbers and no enum.
 pub const ENCIPHERED: usize = names::FREE;
 
 pub const OPEN_ROW: usize = names::FREE + 1;

@@ -7,6 +7,9 @@
 // `#`, `@`, `^` and `$` are holes. A rule of the style sheet that needs `@` itself goes in through `$`.
 #![tactic(auto)]
 
+// Cells of the sheet. A form is numbers, of which the first is a cell and some of the others may be
+// (forms, `form_text`); so these are numbers and no enum.
+
 // ---- the file and its pages
 
 pub const RAW: usize = names::FREE;
