@@ -31,7 +31,7 @@ pub fn is_listed(cells: &[u32; 16], count: usize, handler: u16) -> bool
     requires { count ≤ 16 }
     ensures { result ≡ listed handler (rows_of cells.now count) }
 {
-    let wanted = handler as u32;
+    let wanted = u32::from(handler);
     let mut found = false;
     for cell in &cells[..count] {
         if *cell / 2 == wanted {
@@ -46,14 +46,12 @@ pub fn row_of(cells: &[u32; 16], count: usize, handler: u16) -> Option<usize>
     requires { count ≤ 16 }
     ensures { result ≡ find (is_at handler) (rows_of cells.now count) }
 {
-    let wanted = handler as u32;
+    let wanted = u32::from(handler);
     let mut found = None;
-    let mut i = 0;
-    while i < count {
-        if cells[i] / 2 == wanted {
+    for (i, cell) in cells[..count].iter().enumerate() {
+        if *cell / 2 == wanted {
             found = Some(i);
         }
-        i += 1;
     }
     found
 }
@@ -62,7 +60,7 @@ pub fn is_open(cells: &[u32; 16], count: usize, handler: u16) -> bool
     requires { count ≤ 16 }
     ensures { result ≡ opened_at handler (rows_of cells.now count) }
 {
-    let wanted = handler as u32 * 2 + 1;
+    let wanted = u32::from(handler) * 2 + 1;
     let mut found = false;
     for cell in &cells[..count] {
         if *cell == wanted {
@@ -79,16 +77,10 @@ pub fn set_open(cells: &mut [u32; 16], count: usize, handler: u16, to: bool)
     requires { Column cells.old count }
     ensures { Opened cells.old cells.new count handler to }
 {
-    let wanted = handler as u32;
-    let mut i = count;
-    while 0 < i {
-        i -= 1;
-        if cells[i] / 2 == wanted {
-            cells[i] = table::pack_of(Row {
-                address: handler,
-                opened: to,
-            });
-            return;
-        }
+    if let Some(i) = row_of(cells, count, handler) {
+        cells[i] = u32::from(Row {
+            address: handler,
+            opened: to,
+        });
     }
 }

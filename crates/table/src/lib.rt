@@ -23,7 +23,8 @@ pub struct Row {
 }
 
 // Up to 16 rows by value, and whether there were more. Cells past the rows are zeros. Nobody makes one
-// by hand: `no_rows` and `with_row` do.
+// by hand: `no_rows` and `with_row` do. `more` stays a flag: `with_row` cannot fail, and a row too many is
+// refused only when the table is checked, after a broken row (`judge_rows`, `stage_of`).
 #[derive(Clone, Copy)]
 pub struct Rows {
     cells: [u32; 16],
@@ -32,11 +33,12 @@ pub struct Rows {
 }
 
 // A row as a number.
-pub fn pack_of(row: Row) -> u32
-    ensures { result ≡ pack row }
-{
-    let twice = row.address as u32 * 2;
-    if row.opened { twice + 1 } else { twice }
+impl From<Row> for u32 {
+    ghost from_gives = { λ row number. number ≡ pack row };
+
+    fn from(row: Row) -> u32 {
+        u32::from(row.address) * 2 + u32::from(row.opened)
+    }
 }
 
 pub fn no_rows() -> Rows
@@ -56,7 +58,7 @@ pub fn with_row(rows: Rows, row: Row) -> Rows
     let at = rows.count;
     let mut next = rows;
     if at < 16 {
-        next.cells[at] = pack_of(row);
+        next.cells[at] = u32::from(row);
         next.count = at + 1;
     } else {
         next.more = true;

@@ -5,7 +5,7 @@ use Rattle.table.proofs.with_row.Goals as goal
 
 pub returns-then-at-lt16 : goal.returns-then-at-lt16
 unfolding with_row
-returns-then-at-lt16 c = simp (lt-ltb _ _ c.if-at-lt16.true, c.pack_of.ensures)
+returns-then-at-lt16 c = simp (lt-ltb _ _ c.if-at-lt16.true, c.from.ensures)
 
 pub returns-else-at-lt16 : goal.returns-else-at-lt16
 unfolding with_row
