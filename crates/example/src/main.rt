@@ -9,6 +9,7 @@ use router::Router;
 use start::Started;
 use std::io::Print;
 use table::Row;
+use text::Writer;
 
 // A fresh router over the till driver '0100' and the security module '0001', both open: two lent
 // rows, read in order.
@@ -31,8 +32,10 @@ fn begin() -> Started
 // Sends a part on: here, as a line of hexadecimal digits.
 fn send(rt: HostRuntime, part: &[u8]) {
     let mut line = [0u8; 64];
-    let at = text::put_all_hex(&mut line, 0, part);
-    let end = text::put(&mut line, at, b'\n');
+    let mut out = Writer::new(&mut line, 0);
+    out.put_all_hex(part);
+    out.put(b'\n');
+    let end = out.place();
     if end <= 64 {
         let _ = rt.stdout().write_all(&line[..end]);
     }

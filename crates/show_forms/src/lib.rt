@@ -76,15 +76,6 @@ pub fn put_forms(out: &mut Writer<'_>, sheet: &[u8], list: &[usize], count: usiz
 
 // ---- the same on a buffer and a place, with the place after it as the answer
 
-// Writes a form.
-pub fn put(page: &mut [u8], at: usize, sheet: &[u8], form: &[usize]) -> usize
-    ensures { pen page.new result ≡ puts (pen page.old at) (form_text sheet.now form.now) }
-{
-    let mut out = Writer::new(page, at);
-    put_form(&mut out, sheet, form);
-    out.place()
-}
-
 // Writes the first forms of a list.
 pub fn put_list(page: &mut [u8], at: usize, sheet: &[u8], list: &[usize], count: usize) -> usize
     ensures { pen page.new result ≡ puts (pen page.old at) (forms_text sheet.now list.now count) }
