@@ -5,8 +5,6 @@
 // answers the place after its text, as those of crate `text` do.
 #![tactic(auto)]
 
-use cutter::{Cut, Start};
-use joiner::Keeping;
 use rules::Outcome;
 use tapa::Refusal;
 
@@ -83,38 +81,34 @@ pub fn of_reply(answer: Result<Option<usize>, Refusal>) -> Came {
     }
 }
 
-pub fn of_start(start: Start) -> Came {
+pub fn of_start(start: Result<u8, Refusal>) -> Came {
     match start {
-        Start::Ready(_) => Came::Plain(CUTTING),
-        Start::Refused(refusal) => refused(refusal),
+        Ok(_) => Came::Plain(CUTTING),
+        Err(refusal) => refused(refusal),
     }
 }
 
-pub fn of_cut(cut: Cut) -> Came {
+pub fn of_cut(cut: Result<Option<usize>, Refusal>) -> Came {
     match cut {
-        Cut::Command(n) => Came::Number(COMMAND, n),
-        Cut::Done => Came::Plain(DONE),
-        Cut::Refused(refusal) => refused(refusal),
+        Ok(Some(n)) => Came::Number(COMMAND, n),
+        Ok(None) => Came::Plain(DONE),
+        Err(refusal) => refused(refusal),
     }
 }
 
-pub fn of_keeping(keeping: Keeping) -> Came {
+pub fn of_keeping(keeping: Result<(), Refusal>) -> Came {
     match keeping {
-        Keeping::Done => Came::Plain(KEPT),
-        Keeping::Refused(refusal) => refused(refusal),
+        Ok(()) => Came::Plain(KEPT),
+        Err(refusal) => refused(refusal),
     }
 }
 
 // A piece; so many bytes are joined after it.
-pub fn of_joined(answer: joiner::Answer, joined: usize) -> Came {
+pub fn of_joined(answer: Result<Option<usize>, Refusal>, joined: usize) -> Came {
     match answer {
-        joiner::Answer::More => Came::Number(MORE, joined),
-        joiner::Answer::Message(n) => Came::Numbers(MESSAGE, n, joined),
-        joiner::Answer::Refused(refusal) => Came::Numbers(
-            REFUSED,
-            tapa::number(refusal) as usize,
-            joined,
-        ),
+        Ok(None) => Came::Number(MORE, joined),
+        Ok(Some(n)) => Came::Numbers(MESSAGE, n, joined),
+        Err(refusal) => Came::Numbers(REFUSED, tapa::number(refusal) as usize, joined),
     }
 }
 

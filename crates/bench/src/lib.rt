@@ -18,13 +18,13 @@ ghost use Rattle.bench.specs.Bench.{Lawful, Right, Sound, Ready, Placed, Lines, 
 
 use answers::Came;
 use book::Book;
-use cutter::Start;
 use fields::Read;
 use joiner::Joiner;
 use queue::Queue;
 use router::{Routed, Router};
 use rules::Outcome;
 use table::{Row, Rows};
+use tapa::Refusal;
 
 // The longest input, and the largest buffer that a field can have lent.
 const LONGEST: usize = 65536;
@@ -213,7 +213,7 @@ impl Parts {
         let start = first.start;
         let came = answers::of_start(start);
         let mut next = self;
-        if let Start::Ready(thread) = start {
+        if let Ok(thread) = start {
             next.cutting = true;
             next.from = from;
             next.to = to;
@@ -332,7 +332,12 @@ fn write(asked: &[u8], buffer: &mut [u8]) -> Came {
 }
 
 // What a piece came to. The buffer is said as the message that is handed on, and then the rest.
-fn put_joined(line: &mut [u8], answer: joiner::Answer, joined: usize, work: &[u8]) -> usize {
+fn put_joined(
+    line: &mut [u8],
+    answer: Result<Option<usize>, Refusal>,
+    joined: usize,
+    work: &[u8],
+) -> usize {
     let a = answers::put_came(line, 0, answers::of_joined(answer, joined));
     let part = psam_pieces::joined_part(answer, work);
     if part.len() == 0 {

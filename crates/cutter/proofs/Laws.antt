@@ -1,7 +1,7 @@
 -- Laws of the cutter's definitions: what a start and a handing out answer, check by check, and what is written.
 use Prim.Native.Nat.{ℕ, ◌+◌, ◌-◌, ◌≤◌, ◌<◌}
 use Rattle.message.specs.declared.Head.{Head}
-use Rattle.std.specs.Prelude.{Result}
+use Rattle.std.specs.Prelude.{Result, Some, None, Ok, Err}
 use mathlib.Core.Path.{◌≡◌, refl, sym, ap, ◌∙◌}
 use mathlib.Core.Bool.{not}
 use mathlib.Core.List.{List, [], ◌∷◌, ◌++◌}
@@ -21,8 +21,6 @@ use Rattle.tapa.specs.declared.Refusal.{Refusal}
 use Rattle.tapa.specs.declared.Refusal.TheVariants.{BufferTooSmall}
 use Rattle.message.specs.Message.{head_of, part_of, DataPart}
 use Rattle.message.proofs.Laws.{through-reading}
-use Rattle.cutter.specs.declared.Start.TheVariants.{Ready, Refused as NotReady}
-use Rattle.cutter.specs.declared.Cut.TheVariants.{Command, Done, Refused}
 use Rattle.cutter.specs.declared.Step.{Step}
 use Rattle.cutter.specs.declared.Begun.{Begun}
 use Rattle.cutter.specs.Cutting.{start_checks, start_on, start_of, to_cut, PartToCut, command_head, command_of, piece_at, p2_at, cut_checks, cut_at, place_after, written_at, HandsOut, Steps, Begins, Firsts}
@@ -43,23 +41,23 @@ module _ (s : List ℕ) where
       ∷ [])
       (says cutting (get_or s 5 0 ∷ []))
   unfolding start_of
-  said-start = through-reading (λ (r : Result Head Refusal). said_start (start_on r)) _ s (checks-said said_start (start_checks (head_of s)) (Ready (get_or s 5 0)))
+  said-start = through-reading (λ (r : Result Head Refusal). said_start (start_on r)) _ s (checks-said said_start (start_checks (head_of s)) (Ok (get_or s 5 0)))
 
   -- the data to cut
-  cuts-part : (t : ℕ) → start_of s ≡ Ready t → to_cut s ≡ part_of s
+  cuts-part : (t : ℕ) → start_of s ≡ Ok t → to_cut s ≡ part_of s
   unfolding to_cut
   cuts-part t e = rw e
 
-  cuts-none : (r : Refusal) → start_of s ≡ NotReady r → to_cut s ≡ []
+  cuts-none : (r : Refusal) → start_of s ≡ Err r → to_cut s ≡ []
   unfolding to_cut
   cuts-none r e = rw e
 
 -- as a part of the message: its data, or the empty part at its start
 module _ (x z : Bor (List ℕ)) where
-  pub hands-part : (t : ℕ) → start_of x.now ≡ Ready t → DataPart x z → PartToCut x z
+  pub hands-part : (t : ℕ) → start_of x.now ≡ Ok t → DataPart x z → PartToCut x z
   hands-part t e d = record { bytes = d.bytes ∙ sym (cuts-part x.now t e); place = rw e d.place }
 
-  pub hands_none : (r : Refusal) → start_of x.now ≡ NotReady r → z.now ≡ [] → LiesAt 0 x z → PartToCut x z
+  pub hands_none : (r : Refusal) → start_of x.now ≡ Err r → z.now ≡ [] → LiesAt 0 x z → PartToCut x z
   hands_none r e n l = record { bytes = n ∙ sym (cuts-none x.now r e); place = rw e l }
 
 -- ---- the piece at a place
@@ -109,15 +107,15 @@ module _ (buffer piece : List ℕ) (thread p2 n : ℕ) (x r : List ℕ) (room : 
 
 -- ---- handing out
 module _ (part buffer : List ℕ) (at : ℕ) where
-  pub hands-small : length buffer < 254 → cut_at part at buffer ≡ Refused BufferTooSmall
+  pub hands-small : length buffer < 254 → cut_at part at buffer ≡ Err BufferTooSmall
   unfolding cut_at
   hands-small l = rw (lt-ltb (length buffer) 254 l)
 
-  pub hands-done : 254 ≤ length buffer → length part ≤ at → cut_at part at buffer ≡ Done
+  pub hands-done : 254 ≤ length buffer → length part ≤ at → cut_at part at buffer ≡ (Ok None)
   unfolding cut_at
   hands-done b l = rw (le-ltb (length buffer) 254 b, le-leb (length part) at l)
 
-  pub hands_out : 254 ≤ length buffer → at < length part → cut_at part at buffer ≡ Command (6 + length (piece_at part at))
+  pub hands_out : 254 ≤ length buffer → at < length part → cut_at part at buffer ≡ Ok (Some (6 + length (piece_at part at)))
   unfolding cut_at
   hands_out b l = rw (le-ltb (length buffer) 254 b, lt-leb (length part) at l)
 
@@ -125,35 +123,35 @@ module _ (part buffer : List ℕ) (at : ℕ) where
   pub said-cut : said_cut (cut_at part at buffer)
       ≡ checks ((ltb (length buffer) 254, refused 9) ∷ (leb (length part) at, says done []) ∷ []) (says command ((6 + length (piece_at part at)) ∷ []))
   unfolding cut_at
-  said-cut = checks-said said_cut (cut_checks part at buffer) (Command (6 + length (piece_at part at)))
+  said-cut = checks-said said_cut (cut_checks part at buffer) (Ok (Some (6 + length (piece_at part at))))
 
   -- an answer that hands nothing out keeps the place and the buffer
-  pub kept_small : (thread : ℕ) → length buffer < 254 → HandsOut part thread at buffer buffer (record { cut = Refused BufferTooSmall; next = at })
+  pub kept_small : (thread : ℕ) → length buffer < 254 → HandsOut part thread at buffer buffer (record { cut = Err BufferTooSmall; next = at })
   kept_small thread l = record { answer = rw (hands-small l); buffer = rw (hands-small l) }
 
-  pub kept-done : (thread : ℕ) → 254 ≤ length buffer → length part ≤ at → HandsOut part thread at buffer buffer (record { cut = Done; next = at })
+  pub kept-done : (thread : ℕ) → 254 ≤ length buffer → length part ≤ at → HandsOut part thread at buffer buffer (record { cut = (Ok None); next = at })
   kept-done thread b l = record { answer = rw (hands-done b l); buffer = rw (hands-done b l) }
 
   -- a command with the piece's length, P2 and bytes is the one that stands at the place
   pub handed_out : (thread p2 n next : ℕ) (piece after : List ℕ) → 254 ≤ length buffer → at < length part
       → piece_at part at ≡ piece → p2_at part at ≡ p2 → 6 + length (piece_at part at) ≡ n → at + length (piece_at part at) ≡ next
-      → after ≡ onto (command_of thread p2 piece) buffer → HandsOut part thread at buffer after (record { cut = Command n; next = next })
+      → after ≡ onto (command_of thread p2 piece) buffer → HandsOut part thread at buffer after (record { cut = Ok (Some n); next = next })
   handed_out thread p2 n next piece after b l ep e2 en ex ea = record {
-    answer = rw (hands_out b l) (λ i. record { cut = Command (sym en i); next = sym ex i });
+    answer = rw (hands_out b l) (λ i. record { cut = Ok (Some (sym en i)); next = sym ex i });
     buffer = rw (hands_out b l, ep, e2) ea;
   }
 
   -- the two kinds of command, as the code hands them out
   pub handed-more : (thread : ℕ) (after : List ℕ) → 254 ≤ length buffer → at < length part → 248 < length part - at
       → after ≡ onto (command_of thread 1 (take ((at + 248) - at) (drop at part))) buffer
-      → HandsOut part thread at buffer after (record { cut = Command 254; next = at + 248 })
+      → HandsOut part thread at buffer after (record { cut = Ok (Some 254); next = at + 248 })
   handed-more thread after b l m =
       let n : length (piece_at part at) ≡ 248 = full-length part at m in
       handed_out thread 1 254 (at + 248) (take ((at + 248) - at) (drop at part)) after b l (full-piece part at m) (more-p2 part at m) (omega arith) (omega arith)
 
   pub handed-last : (thread : ℕ) (after : List ℕ) → 254 ≤ length buffer → at < length part → length part - at ≤ 248
       → after ≡ onto (command_of thread 0 (take (length part - at) (drop at part))) buffer
-      → HandsOut part thread at buffer after (record { cut = Command (6 + (length part - at)); next = length part })
+      → HandsOut part thread at buffer after (record { cut = Ok (Some (6 + (length part - at))); next = length part })
   handed-last thread after b l m =
       let n : length (piece_at part at) ≡ length part - at = last-length part at m in
       handed_out thread 0 (6 + (length part - at)) (length part) (take (length part - at) (drop at part)) after b l (last-piece part at m) (last-p2 part at m) (omega arith) (omega arith)

@@ -1,5 +1,5 @@
 -- Towards the PSAM: 'Cutting. A response's data, code included, becomes commands'.
-use Rattle.std.specs.Prelude.{ℕ, ◌+◌, ◌-◌, ◌≡◌, Bool, not, cond, List, [], ◌∷◌, ◌++◌, eqb, ltb, leb, length, take, drop, Result, Ok, Err}
+use Rattle.std.specs.Prelude.{ℕ, ◌+◌, ◌-◌, ◌≡◌, Bool, not, cond, List, [], ◌∷◌, ◌++◌, eqb, ltb, leb, length, take, drop, Result, Ok, Err, Option, Some, None}
 use Rattle.tapa.specs.declared.Refusal.{Refusal}
 use Rattle.std.specs.Borrow.{Bor}
 use Rattle.lists.specs.Lists.{checks, onto, LiesAt}
@@ -7,10 +7,6 @@ use Rattle.tapa.specs.Codes.{response}
 use Rattle.tapa.specs.declared.Refusal.TheVariants.{ThreadAbove7, NoResponseCode, BufferTooSmall, NotThisPartsMessage}
 use Rattle.message.specs.Message.{read_of, part_of, part_start}
 use Rattle.message.specs.declared.Head.{Head}
-use Rattle.cutter.specs.declared.Start.{Start}
-use Rattle.cutter.specs.declared.Start.TheVariants.{Ready, Refused as NotReady}
-use Rattle.cutter.specs.declared.Cut.{Cut}
-use Rattle.cutter.specs.declared.Cut.TheVariants.{Command, Done, Refused}
 use Rattle.cutter.specs.declared.Handed.{Handed}
 use Rattle.cutter.specs.declared.Cutter.{Cutter}
 use Rattle.cutter.specs.declared.Step.{Step}
@@ -20,37 +16,37 @@ use Rattle.cutter.specs.declared.First.{First}
 -- ---- the start
 
 -- 'Checks at the start: 1, 2, 3, type not 'FF' (15), 5, 6'; the reader makes the first three, and has 19 at the place of 3 (request 04)
-abbrev pub start_checks : Head → List (Bool × Start)
+abbrev pub start_checks : Head → List (Bool × Result ℕ Refusal)
 start_checks h =
-    (not (eqb h.kind response), NotReady NotThisPartsMessage)
-    ∷ (ltb 7 h.thread, NotReady ThreadAbove7)
-    ∷ (ltb h.length 2, NotReady NoResponseCode)
+    (not (eqb h.kind response), Err NotThisPartsMessage)
+    ∷ (ltb 7 h.thread, Err ThreadAbove7)
+    ∷ (ltb h.length 2, Err NoResponseCode)
     ∷ []
 
-abbrev pub start_on : Result Head Refusal → Start
-start_on (Err r) = NotReady r
-start_on (Ok h) = checks (start_checks h) (Ready h.thread)
+abbrev pub start_on : Result Head Refusal → Result ℕ Refusal
+start_on (Err r) = Err r
+start_on (Ok h) = checks (start_checks h) (Ok h.thread)
 
-unfoldable pub start_of : List ℕ → Start
+unfoldable pub start_of : List ℕ → Result ℕ Refusal
 start_of message = start_on (read_of message)
 
 -- the thread that the commands bear; a refused start bears none, said as 0
-abbrev pub thread_of : Start → ℕ
-thread_of (Ready thread) = thread
-thread_of (NotReady r) = 0
+abbrev pub thread_of : Result ℕ Refusal → ℕ
+thread_of (Ok thread) = thread
+thread_of (Err r) = 0
 
 -- 'A response's data, code included'; a refused start has nothing to cut
-abbrev pub to_cut_from : Start → List ℕ → List ℕ
-to_cut_from (Ready thread) message = part_of message
-to_cut_from (NotReady r) message = []
+abbrev pub to_cut_from : Result ℕ Refusal → List ℕ → List ℕ
+to_cut_from (Ok thread) message = part_of message
+to_cut_from (Err r) message = []
 
 unfoldable pub to_cut : List ℕ → List ℕ
 to_cut message = to_cut_from (start_of message) message
 
 -- where it starts in the message
-abbrev pub cut_start : Start → List ℕ → ℕ
-cut_start (Ready thread) message = part_start message
-cut_start (NotReady r) message = 0
+abbrev pub cut_start : Result ℕ Refusal → List ℕ → ℕ
+cut_start (Ok thread) message = part_start message
+cut_start (Err r) message = 0
 
 -- the data to cut, handed out: its bytes, and that it stands in the message itself
 pub record PartToCut (message part : Bor (List ℕ)) : Type 0 where
@@ -80,27 +76,27 @@ command_at part thread at = command_of thread (p2_at part at) (piece_at part at)
 -- ---- handing out
 
 -- 'at each handing out, also after the last: buffer under 254 (9)'; 'After the last command the outcome is done'
-abbrev pub cut_checks : List ℕ → ℕ → List ℕ → List (Bool × Cut)
+abbrev pub cut_checks : List ℕ → ℕ → List ℕ → List (Bool × Result (Option ℕ) Refusal)
 cut_checks part at buffer =
-    (ltb (length buffer) 254, Refused BufferTooSmall)
-    ∷ (leb (length part) at, Done)
+    (ltb (length buffer) 254, Err BufferTooSmall)
+    ∷ (leb (length part) at, Ok None)
     ∷ []
 
 -- else the command's length
-unfoldable pub cut_at : List ℕ → ℕ → List ℕ → Cut
-cut_at part at buffer = checks (cut_checks part at buffer) (Command (6 + length (piece_at part at)))
+unfoldable pub cut_at : List ℕ → ℕ → List ℕ → Result (Option ℕ) Refusal
+cut_at part at buffer = checks (cut_checks part at buffer) (Ok (Some (6 + length (piece_at part at))))
 
 -- the place moves past what was handed out, and is kept otherwise
-abbrev pub place_after : Cut → List ℕ → ℕ → ℕ
-place_after (Command n) part at = at + length (piece_at part at)
-place_after Done part at = at
-place_after (Refused r) part at = at
+abbrev pub place_after : Result (Option ℕ) Refusal → List ℕ → ℕ → ℕ
+place_after (Ok (Some n)) part at = at + length (piece_at part at)
+place_after (Ok None) part at = at
+place_after (Err r) part at = at
 
 -- 'bytes past a command stay'; done and a refusal leave every byte
-abbrev pub buffer_after : Cut → List ℕ → List ℕ → List ℕ
-buffer_after (Command n) command buffer = onto command buffer
-buffer_after Done command buffer = buffer
-buffer_after (Refused r) command buffer = buffer
+abbrev pub buffer_after : Result (Option ℕ) Refusal → List ℕ → List ℕ → List ℕ
+buffer_after (Ok (Some n)) command buffer = onto command buffer
+buffer_after (Ok None) command buffer = buffer
+buffer_after (Err r) command buffer = buffer
 
 abbrev pub handed_at : List ℕ → ℕ → List ℕ → Handed
 handed_at part at buffer = record { cut = cut_at part at buffer; next = place_after (cut_at part at buffer) part at }

@@ -1,7 +1,6 @@
 -- A whole cutting: the commands of a response, and what calls with one lent buffer after another hand out.
-use Rattle.std.specs.Prelude.{ℕ, zero, suc, ◌+◌, ◌/◌, ◌≤◌, ◌≡◌, Bool, List, [], ◌∷◌, ◌++◌, leb, length, take, drop, get_or}
-use Rattle.cutter.specs.declared.Cut.{Cut}
-use Rattle.cutter.specs.declared.Cut.TheVariants.{Command, Done, Refused}
+use Rattle.std.specs.Prelude.{ℕ, zero, suc, ◌+◌, ◌/◌, ◌≤◌, ◌≡◌, Bool, List, [], ◌∷◌, ◌++◌, leb, length, take, drop, get_or, Option, Some, None, Result, Ok, Err}
+use Rattle.tapa.specs.declared.Refusal.{Refusal}
 use Rattle.cutter.specs.declared.Cutter.{Cutter}
 use Rattle.cutter.specs.Cutting.{command_at, cut_at, place_after, written_at, step_of}
 
@@ -51,10 +50,10 @@ Shaped (c ∷ d ∷ cs) = IsMore c × Shaped (d ∷ cs)
 -- ---- calls, each with a buffer lent for it
 
 -- the command that a call handed out, if it did
-abbrev pub handed_out : Cut → List ℕ → List (List ℕ)
-handed_out (Command n) after = take n after ∷ []
-handed_out Done after = []
-handed_out (Refused r) after = []
+abbrev pub handed_out : Result (Option ℕ) Refusal → List ℕ → List (List ℕ)
+handed_out (Ok (Some n)) after = take n after ∷ []
+handed_out (Ok None) after = []
+handed_out (Err r) after = []
 
 abbrev pub handed_by : List ℕ → ℕ → ℕ → List (List ℕ) → List (List ℕ)
 handed_by part thread at [] = []

@@ -8,25 +8,11 @@
 
 use tapa::Refusal;
 
-// Whether a message can be cut: a response's thread, or why not.
-#[derive(Clone, Copy)]
-pub enum Start {
-    Ready(u8),
-    Refused(Refusal),
-}
-
-// What one handing out gives: a command of so many bytes, or that all were handed out.
-#[derive(Clone, Copy)]
-pub enum Cut {
-    Command(usize),
-    Done,
-    Refused(Refusal),
-}
-
-// A handing out, and the place after it.
+// A handing out, and the place after it. What is handed out is a command of so many bytes, or none once
+// all were.
 #[derive(Clone, Copy)]
 pub struct Handed {
-    pub cut: Cut,
+    pub cut: Result<Option<usize>, Refusal>,
     pub next: usize,
 }
 
@@ -41,21 +27,22 @@ pub struct Cutter<'a> {
 // A handing out, and the cutter at the next place.
 #[derive(Clone, Copy)]
 pub struct Step<'a> {
-    pub cut: Cut,
+    pub cut: Result<Option<usize>, Refusal>,
     pub rest: Cutter<'a>,
 }
 
-// A start, and the cutter at the first place. A refused start has nothing to cut.
+// A start, which is a response's thread or why the message can't be cut, and the cutter at the first
+// place. A refused start has nothing to cut.
 #[derive(Clone, Copy)]
 pub struct Begun<'a> {
-    pub start: Start,
+    pub start: Result<u8, Refusal>,
     pub cutter: Cutter<'a>,
 }
 
 // A start, the first handing out and the place after it.
 #[derive(Clone, Copy)]
 pub struct First {
-    pub start: Start,
-    pub cut: Cut,
+    pub start: Result<u8, Refusal>,
+    pub cut: Result<Option<usize>, Refusal>,
     pub next: usize,
 }

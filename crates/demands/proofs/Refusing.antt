@@ -1,5 +1,7 @@
 -- Demand 1, of refusals: what each contract leaves as it was.
 use Prim.Native.Nat.{ℕ, ◌-◌, ◌≤◌, ◌<◌}
+use Rattle.joiner.specs.declared.Piece.TheVariants.{NotLast, Last}
+use Rattle.joiner.specs.declared.Piece.{Piece}
 use Rattle.message.specs.declared.Head.{Head}
 use Rattle.std.specs.Prelude.{Result, Ok, Err, ⊤, Option, Some, None}
 use mathlib.Core.Path.{◌≡◌, refl, sym, ap, ◌∙◌}
@@ -33,21 +35,12 @@ use Rattle.events.specs.Ring.{HandlingAt, start_obeyed, start_handled}
 use Rattle.book.specs.declared.Book.{Book}
 use Rattle.store.specs.declared.Handled as done
 use Rattle.store.specs.Store as store
-use Rattle.cutter.specs.declared.Cut.{Cut}
-use Rattle.cutter.specs.declared.Cut.TheVariants as cut
 use Rattle.cutter.specs.declared.First.{First}
 use Rattle.cutter.specs.declared.Handed.{Handed}
 use Rattle.cutter.specs.declared.Step.{Step}
 use Rattle.cutter.specs.Cutting.{start_of, thread_of, to_cut, command_at, cut_at, place_after, buffer_after, cutter_at}
-use Rattle.joiner.specs.declared.Answer.TheVariants as joining
 use Rattle.joiner.specs.declared.Joined.{Joined}
 use Rattle.joiner.specs.declared.Joiner.{Joiner}
-use Rattle.joiner.specs.declared.Keeping.{Keeping}
-use Rattle.joiner.specs.declared.Keeping.TheVariants.{Refused as NotKept}
-use Rattle.joiner.specs.declared.Taking.{Taking}
-use Rattle.joiner.specs.declared.Taking.TheVariants.{NotLast, Last, Refused as NotTaken}
-use Rattle.joiner.specs.declared.Whole.{Whole}
-use Rattle.joiner.specs.declared.Whole.TheVariants.{Plain, Response, Refused as NotWhole}
 use Rattle.joiner.specs.Joining.{taking_of, joined_with, whole_of, whole_answer, whole_bytes, answer_to, count_to, answer_of as joined_as, next_of, buffer_of, Joins, get_next_bytes, keeping_on, keeper_on, kept_of}
 use Rattle.demands.specs.Refusing.{refusal_table, Stays, NotJoined, Refusing}
 
@@ -141,25 +134,25 @@ store-stays b area area' message before after h x k e = go (store.checked (lengt
 
 -- ---- the cutter
 
-cut-stays : (c : Cut) (k : Refusal) → c ≡ cut.Refused k → (part : List ℕ) (at : ℕ) (command before : List ℕ)
+cut-stays : (c : Result (Option ℕ) Refusal) (k : Refusal) → c ≡ Err k → (part : List ℕ) (at : ℕ) (command before : List ℕ)
     → (place_after c part at ≡ at) × (buffer_after c command before ≡ before)
 cut-stays c k e part at command before =
-    (ap (λ (x : Cut). place_after x part at) e, ap (λ (x : Cut). buffer_after x command before) e)
+    (ap (λ (x : Result (Option ℕ) Refusal). place_after x part at) e, ap (λ (x : Result (Option ℕ) Refusal). buffer_after x command before) e)
 
 -- ---- the joiner
 
 -- at '9000' a refusal leaves what was joined
-whole-refused : (w : Whole) (m : List ℕ) (k : Refusal) → whole_answer w m ≡ joining.Refused k → whole_bytes w m ≡ m
-whole-refused (NotWhole r) m k e = refl
-whole-refused Plain m k e = differ (cc)
-whole-refused (Response source) m k e = differ (cc)
+whole-refused : (w : Result (Option ℕ) Refusal) (m : List ℕ) (k : Refusal) → whole_answer w m ≡ Err k → whole_bytes w m ≡ m
+whole-refused (Err r) m k e = refl
+whole-refused (Ok None) m k e = differ (cc)
+whole-refused (Ok (Some source)) m k e = differ (cc)
 
 module _ (j : Joiner) (piece before : List ℕ) where
   -- a piece that is no last one is refused before anything is written, and its count is gone
-  count-gone : (t : Taking) (m : List ℕ) (n : ℕ) (k : Refusal) → answer_to t j m ≡ joining.Refused k → count_to t n ≡ 0
-  count-gone (NotTaken r) m n k e = refl
-  count-gone NotLast m n k e = differ (cc)
-  count-gone Last m n k e = refl
+  count-gone : (t : Result Piece Refusal) (m : List ℕ) (n : ℕ) (k : Refusal) → answer_to t j m ≡ Err k → count_to t n ≡ 0
+  count-gone (Err r) m n k e = refl
+  count-gone (Ok NotLast) m n k e = differ (cc)
+  count-gone (Ok Last) m n k e = refl
 
   module _ (few : length before < 1032) where
     small-next : next_of j piece before ≡ j
@@ -170,8 +163,8 @@ module _ (j : Joiner) (piece before : List ℕ) where
     unfolding buffer_of
     small-buffer = rw (lt-ltb (length before) 1032 few)
 
-  module _ (room : 1032 ≤ length before) (k : Refusal) (e : joined_as j piece before ≡ joining.Refused k) where
-    refused_as : answer_to (taking_of j.joined piece) j (joined_with j.joined piece before) ≡ joining.Refused k
+  module _ (room : 1032 ≤ length before) (k : Refusal) (e : joined_as j piece before ≡ Err k) where
+    refused_as : answer_to (taking_of j.joined piece) j (joined_with j.joined piece before) ≡ Err k
     unfolding joined_as
     refused_as = rw (le-ltb (length before) 1032 room) at e
 
@@ -181,30 +174,30 @@ module _ (j : Joiner) (piece before : List ℕ) where
         rw (le-ltb (length before) 1032 room)
         (ap (λ (n : ℕ). record { joined = n; sources = j.sources; kept = j.kept }) (count-gone (taking_of j.joined piece) (joined_with j.joined piece before) _ k refused_as))
 
-    last_written : taking_of j.joined piece ≡ Last → buffer_of j piece before ≡ onto (joined_with j.joined piece before) before
+    last_written : taking_of j.joined piece ≡ Ok Last → buffer_of j piece before ≡ onto (joined_with j.joined piece before) before
     unfolding buffer_of
     last_written l =
         let m : List ℕ = joined_with j.joined piece before in
-        let r : whole_answer (whole_of j m) m ≡ joining.Refused k = rw l at refused_as in
+        let r : whole_answer (whole_of j m) m ≡ Err k = rw l at refused_as in
         rw (le-ltb (length before) 1032 room, l) (ap (λ (x : List ℕ). onto x before) (whole-refused (whole_of j m) m k r))
 
   -- refused before the last piece was seen
-  not_taken : (r : Refusal) → taking_of j.joined piece ≡ NotTaken r → buffer_of j piece before ≡ before
+  not_taken : (r : Refusal) → taking_of j.joined piece ≡ Err r → buffer_of j piece before ≡ before
   unfolding buffer_of
   not_taken r e = split (ltb (length before) 1032) (λ b. rw b) (λ b. rw (b, e))
 
 not-joined : (j : Joiner) (piece before after : List ℕ) (r : Joined) → Joins j piece before after r
-    → (k : Refusal) → r.answer ≡ joining.Refused k → NotJoined j piece before after r.next
+    → (k : Refusal) → r.answer ≡ Err k → NotJoined j piece before after r.next
 not-joined j piece before after r x k e =
-    let a : joined_as j piece before ≡ joining.Refused k = sym x.answer ∙ e in record {
+    let a : joined_as j piece before ≡ Err k = sym x.answer ∙ e in record {
       by-9 = λ few. (x.next ∙ small-next j piece before few, x.buffer ∙ small-buffer j piece before few);
       count = λ room. x.next ∙ counted j piece before room k a;
       earlier = λ z t. x.buffer ∙ not_taken j piece before z t;
       at-9000 = λ room l. x.buffer ∙ last_written j piece before room k a l;
     }
 
-not-kept : (r : Result Head Refusal) (c : Keeping) (j : Joiner) (k : Refusal) → c ≡ NotKept k → keeper_on r c j ≡ j
-not-kept (Ok h) c j k e = ap (λ (x : Keeping). keeper_on (Ok h) x j) e
+not-kept : (r : Result Head Refusal) (c : Result ⊤ Refusal) (j : Joiner) (k : Refusal) → c ≡ Err k → keeper_on r c j ≡ j
+not-kept (Ok h) c j k e = ap (λ (x : Result ⊤ Refusal). keeper_on (Ok h) x j) e
 not-kept (Err z) c j k e = refl
 
 -- ---- all of them

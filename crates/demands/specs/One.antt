@@ -3,7 +3,8 @@
 -- A contract is an equation between the answer (or a lent buffer at the end) and a definition, or a relation that has a name. Of equations it
 -- is shown once for all (proofs/One.antt, `equations`). Of the relations it is this record: a field a function, over the very name that the
 -- function ensures. docs/PROMISES.md has every public function with its theorem.
-use Rattle.std.specs.Prelude.{ℕ, ◌≡◌, List, Bool, Option}
+use Rattle.std.specs.Prelude.{ℕ, ◌≡◌, List, Bool, Option, Result}
+use Rattle.tapa.specs.declared.Refusal.{Refusal}
 use Rattle.std.specs.Borrow.{Bor, MutBor}
 use Rattle.message.specs.declared.Head.{Head}
 use Rattle.message.specs.Message.{Wrote, DataPart}
@@ -30,7 +31,6 @@ use Rattle.cutter.specs.declared.Begun.{Begun}
 use Rattle.cutter.specs.Cutting.{PartToCut, HandsOut, Steps, Begins, Firsts}
 use Rattle.slots.specs.Slots.{SlotPart}
 use Rattle.joiner.specs.declared.Joiner.{Joiner}
-use Rattle.joiner.specs.declared.Answer.{Answer}
 use Rattle.joiner.specs.Joining.{Joins, PartFor, Asks}
 use Rattle.run.specs.declared.Session.{Session}
 use Rattle.run.specs.declared.Went.{Went}
@@ -125,7 +125,7 @@ pub record OneResult : Type 0 where
       → (b.start ≡ c.start) × SamePart b.cutter.part c.cutter.part × (b.cutter.thread ≡ c.cutter.thread) × (b.cutter.at ≡ c.cutter.at)
   -- joiner
   pub join : (j : Joiner) (piece before : List ℕ) → OneWith (λ r after. Joins j piece before after r)
-  pub joined-part : (answer : Answer) (buffer : Bor (List ℕ)) → OnePart (PartFor answer buffer)
+  pub joined-part : (answer : Result (Option ℕ) Refusal) (buffer : Bor (List ℕ)) → OnePart (PartFor answer buffer)
   pub get-next : (thread : ℕ) (before : List ℕ) → OneWith (λ w after. Asks thread before after w)
   -- run, pages
   pub session-begin : (input : List ℕ) → One (run.Begins input)

@@ -1,6 +1,7 @@
 -- Demand 1, of refusals: each has its number, and 'a refusal returns its number only and changes nothing, save the joiner's count and written piece as
 -- said'. Over the very relations that the functions ensure.
-use Rattle.std.specs.Prelude.{ℕ, ◌-◌, ◌≤◌, ◌<◌, ◌≡◌, List, [], ◌∷◌, ◌++◌, length, take, get_or, Option, Result, Err}
+use Rattle.std.specs.Prelude.{ℕ, ◌-◌, ◌≤◌, ◌<◌, ◌≡◌, List, [], ◌∷◌, ◌++◌, length, take, get_or, Option, Result, Err, Ok}
+use Rattle.joiner.specs.declared.Piece.TheVariants.{Last}
 use Rattle.lists.specs.Lists.{onto}
 use Rattle.tapa.specs.declared.Refusal.{Refusal}
 use Rattle.tapa.specs.declared.Refusal.TheVariants.{TooShort, TooLong, FewerThanAnnounced, NotInTable, ThreadAbove7, NoResponseCode, StrayResponse, WrongAsker, BufferTooSmall, EventCannotBeTaken, RowCountOrShape, Repeat, TooManyMulti, NothingToGiveUp, NotThisPartsMessage, StandsInAWait, NoSourceKept, StatusNotUsable, MoreThanAnnounced, HoldsAQuestion}
@@ -21,17 +22,13 @@ use Rattle.events.specs.Ring.{HandlingAt}
 use Rattle.book.specs.declared.Book.{Book}
 use Rattle.store.specs.declared.Handled as store
 use Rattle.store.specs.Store.{Handling, handled}
-use Rattle.cutter.specs.declared.Cut.TheVariants as cut
 use Rattle.cutter.specs.declared.Cutter.{Cutter}
 use Rattle.cutter.specs.declared.First.{First}
 use Rattle.cutter.specs.declared.Handed.{Handed}
 use Rattle.cutter.specs.declared.Step.{Step}
 use Rattle.cutter.specs.Cutting.{HandsOut, Steps, Firsts}
-use Rattle.joiner.specs.declared.Answer.TheVariants as joining
 use Rattle.joiner.specs.declared.Joined.{Joined}
 use Rattle.joiner.specs.declared.Joiner.{Joiner}
-use Rattle.joiner.specs.declared.Keeping.TheVariants.{Refused as NotKept}
-use Rattle.joiner.specs.declared.Taking.TheVariants.{Refused as NotTaken, Last}
 use Rattle.joiner.specs.Joining.{taking_of, Joins, Asks, kept_of}
 
 -- 'Refusal numbers': the page's table, with 19 of request 04 and 20 of request 05
@@ -68,8 +65,8 @@ Stays r before after out = (k : Refusal) → out.outcome ≡ outcome.Refused k �
 pub record NotJoined (j : Joiner) (piece before after : List ℕ) (next : Joiner) : Type 0 where
   pub by-9 : length before < 1032 → (next ≡ j) × (after ≡ before)
   pub count : 1032 ≤ length before → next ≡ record { joined = 0; sources = j.sources; kept = j.kept }
-  pub earlier : (k : Refusal) → taking_of j.joined piece ≡ NotTaken k → after ≡ before
-  pub at-9000 : 1032 ≤ length before → taking_of j.joined piece ≡ Last
+  pub earlier : (k : Refusal) → taking_of j.joined piece ≡ Err k → after ≡ before
+  pub at-9000 : 1032 ≤ length before → taking_of j.joined piece ≡ Ok Last
       → after ≡ onto (take j.joined before ++ take (length piece - 2) piece) before
 
 pub record Refusing : Type 0 where
@@ -94,12 +91,12 @@ pub record Refusing : Type 0 where
       → (k : Refusal) → h.answer ≡ Err k → (h.next ≡ b) × (area' ≡ area) × (after ≡ before)
   -- the cutter: 'the place kept'
   pub cut-next : (part : List ℕ) (thread at : ℕ) (before after : List ℕ) (h : Handed) → HandsOut part thread at before after h
-      → (k : Refusal) → h.cut ≡ cut.Refused k → (h.next ≡ at) × (after ≡ before)
-  pub next : (c : Cutter) (before after : List ℕ) (s : Step) → Steps c before after s → (k : Refusal) → s.cut ≡ cut.Refused k → (s.rest ≡ c) × (after ≡ before)
+      → (k : Refusal) → h.cut ≡ Err k → (h.next ≡ at) × (after ≡ before)
+  pub next : (c : Cutter) (before after : List ℕ) (s : Step) → Steps c before after s → (k : Refusal) → s.cut ≡ Err k → (s.rest ≡ c) × (after ≡ before)
   pub first-command : (message before after : List ℕ) (f : First) → Firsts message before after f
-      → (k : Refusal) → f.cut ≡ cut.Refused k → (f.next ≡ 0) × (after ≡ before)
+      → (k : Refusal) → f.cut ≡ Err k → (f.next ≡ 0) × (after ≡ before)
   -- the joiner; 'Keeping a source'; Get Next
   pub join : (j : Joiner) (piece before after : List ℕ) (r : Joined) → Joins j piece before after r
-      → (k : Refusal) → r.answer ≡ joining.Refused k → NotJoined j piece before after r.next
-  pub keep : (j : Joiner) (message : List ℕ) (k : Refusal) → (kept_of j message).answer ≡ NotKept k → (kept_of j message).next ≡ j
+      → (k : Refusal) → r.answer ≡ Err k → NotJoined j piece before after r.next
+  pub keep : (j : Joiner) (message : List ℕ) (k : Refusal) → (kept_of j message).answer ≡ Err k → (kept_of j message).next ≡ j
   pub get-next : (thread : ℕ) (before after : List ℕ) (w : Result ℕ Refusal) → Asks thread before after w → (k : Refusal) → w ≡ Err k → after ≡ before

@@ -1,5 +1,7 @@
 -- Every way of cutting a message into pieces joins to the same message, or is refused alike.
 use Prim.Native.Nat.{ℕ, ◌+◌, ◌*◌, ◌-◌, ◌≤◌}
+use Rattle.joiner.specs.declared.Piece.TheVariants.{NotLast, Last}
+use Rattle.std.specs.Prelude.{Option, Some, None, Result, Ok, Err}
 use mathlib.Core.Path.{◌≡◌, refl, sym, ap, ◌∙◌}
 use mathlib.Core.Bool.{true, false}
 use mathlib.Core.List.{List, [], ◌∷◌, ◌++◌, append_assoc}
@@ -14,11 +16,6 @@ use Rattle.tapa.specs.Codes.{response, successful}
 use Rattle.tapa.specs.declared.Refusal.{Refusal}
 use Rattle.message.specs.Message.{head_bytes, message_of}
 use Rattle.joiner.specs.declared.Joiner.{Joiner}
-use Rattle.joiner.specs.declared.Taking.TheVariants.{NotLast, Last}
-use Rattle.joiner.specs.declared.Whole.{Whole}
-use Rattle.joiner.specs.declared.Whole.TheVariants.{Plain, Response, Refused as NotWhole}
-use Rattle.joiner.specs.declared.Answer.{Answer}
-use Rattle.joiner.specs.declared.Answer.TheVariants.{More, Message}
 use Rattle.joiner.specs.Joining.{counting, status_of, data_of, taking_of, joined_with, whole_of, completed, whole_answer, whole_bytes, answer_of, next_of, buffer_of, part_for}
 use Rattle.joiner.specs.Sending.{together, sent, Small, response_sent, answers_by, joiner_by, buffer_by, Delivers, Drops}
 use Rattle.joiner.proofs.Laws.{takes-last, takes-more, whole-longer, whole_plain, whole-response}
@@ -57,12 +54,12 @@ module _ (j : Joiner) (d b : List ℕ) (small : length d ≤ 252) (fits : j.join
     counted : j.joined + (length p - 2) ≡ j.joined + length d
     counted = omega (arith, piece-length d s₁ s₂)
 
-  is_last : taking_of j.joined (p 0x90 0x00) ≡ Last
+  is_last : taking_of j.joined (p 0x90 0x00) ≡ Ok Last
   is_last =
       let n : length (p 0x90 0x00) ≡ length d + 2 = piece-length d 0x90 0x00 in
       takes-last j.joined (p 0x90 0x00) (omega arith) (omega arith) (omega arith) (piece-status d 0x90 0x00)
 
-  is-more : taking_of j.joined (p 0x96 0x01) ≡ NotLast
+  is-more : taking_of j.joined (p 0x96 0x01) ≡ (Ok NotLast)
   is-more =
       let n : length (p 0x96 0x01) ≡ length d + 2 = piece-length d 0x96 0x01 in
       takes-more j.joined (p 0x96 0x01) (omega arith) (omega arith) (omega arith) (piece-status d 0x96 0x01)
@@ -79,7 +76,7 @@ module _ (j : Joiner) (d b : List ℕ) (small : length d ≤ 252) (fits : j.join
   unfolding buffer_of
   last-buffer = rw (le-ltb (length b) 1032 room, is_last, joined-with 0x90 0x00)
 
-  more-answer : answer_of j (p 0x96 0x01) b ≡ More
+  more-answer : answer_of j (p 0x96 0x01) b ≡ (Ok None)
   unfolding answer_of
   more-answer = rw (le-ltb (length b) 1032 room, is-more)
 
@@ -99,7 +96,7 @@ unfolding whole_of
 same_whole j n m = refl
 
 record AtOnce (j : Joiner) (d : List ℕ) (ds : List (List ℕ)) (b : List ℕ) (m : List ℕ) : Type 0 where
-  answers : answers_by j (sent d ds) b ≡ replicate (length ds) More ++ (whole_answer (whole_of j m) m ∷ [])
+  answers : answers_by j (sent d ds) b ≡ replicate (length ds) (Ok None) ++ (whole_answer (whole_of j m) m ∷ [])
   next : joiner_by j (sent d ds) b ≡ counting j 0
   buffer : buffer_by j (sent d ds) b ≡ onto (whole_bytes (whole_of j m) m) b
 
@@ -118,18 +115,18 @@ module _ (j : Joiner) (d b : List ℕ) (small : length d ≤ 252) (fits : j.join
       onto-over (whole_bytes (whole_of j m) m) first b (omega (arith, whole-longer (whole_of j m) m)) in record {
         answers =
             (λ i. more-answer j d b small fits room i ∷ answers_by (more-next j d b small fits room i) (sent e ds) (more-buffer j d b small fits room i))
-            ∙ ap (λ (xs : List Answer). More ∷ xs) h.answers
-            ∙ ap (λ (v : Whole). More ∷ (replicate (length ds) More ++ (whole_answer v m ∷ []))) w;
+            ∙ ap (λ (xs : List (Result (Option ℕ) Refusal)). (Ok None) ∷ xs) h.answers
+            ∙ ap (λ (v : Result (Option ℕ) Refusal). (Ok None) ∷ (replicate (length ds) (Ok None) ++ (whole_answer v m ∷ []))) w;
         next = (λ i. joiner_by (more-next j d b small fits room i) (sent e ds) (more-buffer j d b small fits room i)) ∙ h.next;
         buffer =
             (λ i. buffer_by (more-next j d b small fits room i) (sent e ds) (more-buffer j d b small fits room i)) ∙ h.buffer
-            ∙ ap (λ (v : Whole). onto (whole_bytes v m) (onto first b)) w ∙ over;
+            ∙ ap (λ (v : Result (Option ℕ) Refusal). onto (whole_bytes v m) (onto first b)) w ∙ over;
       }
 
 by-pieces : (ds : List (List ℕ)) (j : Joiner) (d b : List ℕ) → Small d → All Small ds → j.joined + length (together d ds) ≤ 1032 → 1032 ≤ length b
     → AtOnce j d ds b (take j.joined b ++ together d ds)
 by-pieces [] j d b small smalls fits room = record {
-  answers = ap (λ (a : Answer). a ∷ []) (last-answer j d b small fits room);
+  answers = ap (λ (a : Result (Option ℕ) Refusal). a ∷ []) (last-answer j d b small fits room);
   next = last-next j d b small fits room;
   buffer = last-buffer j d b small fits room;
 }
@@ -156,28 +153,28 @@ module _ (j : Joiner) (first : List ℕ) (rest : List (List ℕ)) (b : List ℕ)
       let start : take j.joined b ++ together first rest ≡ m = ap (λ (k : ℕ). take k b ++ together first rest) idle ∙ em in
       rw start at (by-pieces rest j first b small smalls (omega arith) room)
 
-  delivers : (w : Whole) (m message : List ℕ) → together first rest ≡ m → length m ≤ 1032 → length message ≤ 1032 → whole_of j m ≡ w
-      → whole_answer w m ≡ Message (length message) → whole_bytes w m ≡ message → Delivers j first rest message b
+  delivers : (w : Result (Option ℕ) Refusal) (m message : List ℕ) → together first rest ≡ m → length m ≤ 1032 → length message ≤ 1032 → whole_of j m ≡ w
+      → whole_answer w m ≡ Ok (Some (length message)) → whole_bytes w m ≡ message → Delivers j first rest message b
   delivers w m message em few fit ew ea eb =
       let h : AtOnce j first rest b m = at_once m em few in
-      let answer : whole_answer (whole_of j m) m ≡ Message (length message) = ap (λ (v : Whole). whole_answer v m) ew ∙ ea in
-      let bytes : whole_bytes (whole_of j m) m ≡ message = ap (λ (v : Whole). whole_bytes v m) ew ∙ eb in
+      let answer : whole_answer (whole_of j m) m ≡ Ok (Some (length message)) = ap (λ (v : Result (Option ℕ) Refusal). whole_answer v m) ew ∙ ea in
+      let bytes : whole_bytes (whole_of j m) m ≡ message = ap (λ (v : Result (Option ℕ) Refusal). whole_bytes v m) ew ∙ eb in
       let held : buffer_by j (sent first rest) b ≡ onto message b = h.buffer ∙ ap (λ (y : List ℕ). onto y b) bytes in
       let long : length (onto message b) ≡ length b = onto-length message b (omega arith) in record {
-        answers = h.answers ∙ ap (λ (a : Answer). replicate (length rest) More ++ (a ∷ [])) answer;
+        answers = h.answers ∙ ap (λ (a : Result (Option ℕ) Refusal). replicate (length rest) (Ok None) ++ (a ∷ [])) answer;
         next = h.next;
         buffer = held;
-        part = ap (part_for (Message (length message))) held ∙ rw (le-leb (length message) (length (onto message b)) (omega arith)) (take-append_seam message (drop (length message) b));
+        part = ap (part_for (Ok (Some (length message)))) held ∙ rw (le-leb (length message) (length (onto message b)) (omega arith)) (take-append_seam message (drop (length message) b));
       }
 
   -- a whole that is refused
-  pub drops : (r : Refusal) → length (together first rest) ≤ 1032 → whole_of j (together first rest) ≡ NotWhole r → Drops j first rest r b
+  pub drops : (r : Refusal) → length (together first rest) ≤ 1032 → whole_of j (together first rest) ≡ Err r → Drops j first rest r b
   drops r few e =
       let m : List ℕ = together first rest in
       let h : AtOnce j first rest b m = at_once m refl few in record {
-        answers = h.answers ∙ ap (λ (w : Whole). replicate (length rest) More ++ (whole_answer w m ∷ [])) e;
+        answers = h.answers ∙ ap (λ (w : Result (Option ℕ) Refusal). replicate (length rest) (Ok None) ++ (whole_answer w m ∷ [])) e;
         next = h.next;
-        buffer = h.buffer ∙ ap (λ (w : Whole). onto (whole_bytes w m) b) e;
+        buffer = h.buffer ∙ ap (λ (w : Result (Option ℕ) Refusal). onto (whole_bytes w m) b) e;
       }
 
   -- a message that is no response arrives as it is
@@ -186,7 +183,7 @@ module _ (j : Joiner) (first : List ℕ) (rest : List (List ℕ)) (b : List ℕ)
   unfolding message_of
   command-delivered destination source kind thread part other t few e =
       let m : List ℕ = message_of destination source kind thread part in
-      delivers Plain m m e (omega arith) (omega arith)
+      delivers (Ok None) m m e (omega arith) (omega arith)
       (whole_plain j m (omega arith) t (omega arith) other (omega arith)) refl refl
 
   -- a response, sent without its code and with its length counting it, arrives with the kept source as its destination and with the code '0000'
@@ -200,5 +197,5 @@ module _ (j : Joiner) (first : List ℕ) (rest : List (List ℕ)) (b : List ℕ)
       let n : length (part ++ two_bytes successful) ≡ length part + 2 = length-append part (two_bytes successful) in
       let bytes : completed to m ≡ message_of to source response thread (part ++ two_bytes successful) =
       ap (λ (k : ℕ). head_bytes to source response thread k ++ (part ++ two_bytes successful)) (sym n) in
-      delivers (Response to) m (message_of to source response thread (part ++ two_bytes successful)) e (omega arith) (omega arith)
-      (whole-response j m (omega arith) t (omega arith) refl (omega arith) kept) (ap Message (omega arith)) bytes
+      delivers (Ok (Some to)) m (message_of to source response thread (part ++ two_bytes successful)) e (omega arith) (omega arith)
+      (whole-response j m (omega arith) t (omega arith) refl (omega arith) kept) (ap (λ (n : ℕ). Ok (Some n)) (omega arith)) bytes

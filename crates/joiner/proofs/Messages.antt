@@ -1,5 +1,6 @@
 -- Whole pieces and whole joined messages in bytes, computed, in a buffer of 1,032 bytes '55' where no other is named.
 use Prim.Native.Nat.{ℕ, ◌≤◌}
+use Rattle.std.specs.Prelude.{Some, Ok}
 use mathlib.Core.Path.{◌≡◌, refl}
 use mathlib.Core.Bool.{true, false}
 use mathlib.Core.List.{List, [], ◌∷◌, ◌++◌, map}
@@ -7,7 +8,6 @@ use lib.ListN.{length, replicate}
 use Rattle.tapa.specs.Said.{Said, refused, says, get_next, joined as hands_on, kept as keeps}
 use Rattle.message.specs.Message.{read_of}
 use Rattle.joiner.specs.declared.Joiner.{Joiner}
-use Rattle.joiner.specs.declared.Answer.TheVariants.{Message}
 use Rattle.joiner.specs.Joining.{fresh_joiner, taking_of, whole_of, completed, answer_of, next_of, buffer_of, part_for, kept_of}
 use Rattle.joiner.specs.Sending.{Small, answers_by, joiner_by, buffer_by}
 use Rattle.joiner.specs.Said.{said_answer, said_keeping}
@@ -64,7 +64,7 @@ pub record Joined : Type 0 where
   -- 'the destination becomes the source kept from the thread's last '42' command', 'and '0000' is appended'
   pub response : sent (holding 0) pieces 1032 ≡ came (says get_next [] ∷ says hands_on (14 ∷ []) ∷ []) (holding 0) (whole ++ replicate 1018 0x55)
   -- 'which hands on the joined message as a part'
-  pub part : part_for (Message 14) (whole ++ replicate 1018 0x55) ≡ whole
+  pub part : part_for (Ok (Some 14)) (whole ++ replicate 1018 0x55) ≡ whole
   -- 'none kept being 17'; both pieces stay written, and neither source nor code is
   pub none_kept : sent fresh_joiner pieces 1032
       ≡ came (says get_next [] ∷ refused 17 ∷ []) fresh_joiner

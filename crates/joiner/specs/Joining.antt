@@ -1,5 +1,7 @@
 -- From the PSAM: 'Joining. A piece is 0 to 252 data bytes and two status bytes.'
-use Rattle.std.specs.Prelude.{ℕ, ◌+◌, ◌-◌, ◌≡◌, Bool, true, false, not, cond, ◌&&◌, ◌||◌, List, [], ◌∷◌, ◌++◌, eqb, ltb, leb, length, take, drop, get_or, set, replicate, Result, Ok, Err}
+use Rattle.std.specs.Prelude.{ℕ, ◌+◌, ◌-◌, ◌≡◌, Bool, true, false, not, cond, ◌&&◌, ◌||◌, List, [], ◌∷◌, ◌++◌, eqb, ltb, leb, length, take, drop, get_or, set, replicate, Result, Ok, Err, Option, Some, None, ⊤}
+use Rattle.joiner.specs.declared.Piece.TheVariants.{NotLast, Last}
+use Rattle.joiner.specs.declared.Piece.{Piece}
 use Rattle.tapa.specs.declared.Refusal.{Refusal}
 use Rattle.std.specs.Borrow.{Bor}
 use Rattle.lists.specs.Lists.{checks, onto, LiesAt}
@@ -9,15 +11,7 @@ use Rattle.tapa.specs.declared.Refusal.TheVariants.{TooShort, TooLong, FewerThan
 use Rattle.message.specs.Message.{read_of}
 use Rattle.message.specs.declared.Head.{Head}
 use Rattle.joiner.specs.declared.Joiner.{Joiner}
-use Rattle.joiner.specs.declared.Taking.{Taking}
-use Rattle.joiner.specs.declared.Taking.TheVariants.{NotLast, Last, Refused as NotTaken}
-use Rattle.joiner.specs.declared.Whole.{Whole}
-use Rattle.joiner.specs.declared.Whole.TheVariants.{Plain, Response, Refused as NotWhole}
-use Rattle.joiner.specs.declared.Answer.{Answer}
-use Rattle.joiner.specs.declared.Answer.TheVariants.{More, Message, Refused}
 use Rattle.joiner.specs.declared.Joined.{Joined}
-use Rattle.joiner.specs.declared.Keeping.{Keeping}
-use Rattle.joiner.specs.declared.Keeping.TheVariants.{Done, Refused as NotKept}
 use Rattle.joiner.specs.declared.Kept.{Kept}
 
 -- ---- the state: the joined count, and a source for each thread, if one was kept
@@ -44,17 +38,17 @@ abbrev pub data_of : List ℕ → List ℕ
 data_of piece = take (length piece - 2) piece
 
 -- 'piece under 2 (1); over 254 (2); status neither '9601' nor '9000' (18); sum over 1,032 (2)'
-abbrev pub taking_checks : ℕ → List ℕ → List (Bool × Taking)
+abbrev pub taking_checks : ℕ → List ℕ → List (Bool × Result Piece Refusal)
 taking_checks joined piece =
-    (ltb (length piece) 2, NotTaken TooShort)
-    ∷ (ltb 254 (length piece), NotTaken TooLong)
-    ∷ (not (eqb (status_of piece) 0x9601 || eqb (status_of piece) 0x9000), NotTaken StatusNotUsable)
-    ∷ (ltb 1032 (joined + (length piece - 2)), NotTaken TooLong)
-    ∷ (eqb (status_of piece) 0x9601, NotLast)
+    (ltb (length piece) 2, Err TooShort)
+    ∷ (ltb 254 (length piece), Err TooLong)
+    ∷ (not (eqb (status_of piece) 0x9601 || eqb (status_of piece) 0x9000), Err StatusNotUsable)
+    ∷ (ltb 1032 (joined + (length piece - 2)), Err TooLong)
+    ∷ (eqb (status_of piece) 0x9601, Ok NotLast)
     ∷ []
 
-unfoldable pub taking_of : ℕ → List ℕ → Taking
-taking_of joined piece = checks (taking_checks joined piece) Last
+unfoldable pub taking_of : ℕ → List ℕ → Result Piece Refusal
+taking_of joined piece = checks (taking_checks joined piece) (Ok Last)
 
 -- 'Each piece's data is written into the lent buffer from where the last ended': what is joined by then
 abbrev pub joined_with : ℕ → List ℕ → List ℕ → List ℕ
@@ -74,58 +68,58 @@ due_for m = cond (is_response m) (length m - 8 + 2) (length m - 8)
 
 -- 'm under 8 (1); thread above 7 (5)'; 'A length over 1,024 is 2, tested before 3; 17 comes last'; request 04: 'fewer bytes than announced stays 3,
 -- more bytes becomes 19', and 'The joiner's comparison at '9000' splits the same way'
-abbrev pub whole_checks : Joiner → List ℕ → List (Bool × Whole)
+abbrev pub whole_checks : Joiner → List ℕ → List (Bool × Result (Option ℕ) Refusal)
 whole_checks j m =
-    (ltb (length m) 8, NotWhole TooShort)
-    ∷ (ltb 7 (thread_of m), NotWhole ThreadAbove7)
-    ∷ (ltb 1024 (word_at m 6), NotWhole TooLong)
-    ∷ (ltb (due_for m) (word_at m 6), NotWhole FewerThanAnnounced)
-    ∷ (ltb (word_at m 6) (due_for m), NotWhole MoreThanAnnounced)
-    ∷ (is_response m && not (get_or j.kept (thread_of m) false), NotWhole NoSourceKept)
-    ∷ (is_response m, Response (get_or j.sources (thread_of m) 0))
+    (ltb (length m) 8, Err TooShort)
+    ∷ (ltb 7 (thread_of m), Err ThreadAbove7)
+    ∷ (ltb 1024 (word_at m 6), Err TooLong)
+    ∷ (ltb (due_for m) (word_at m 6), Err FewerThanAnnounced)
+    ∷ (ltb (word_at m 6) (due_for m), Err MoreThanAnnounced)
+    ∷ (is_response m && not (get_or j.kept (thread_of m) false), Err NoSourceKept)
+    ∷ (is_response m, Ok (Some (get_or j.sources (thread_of m) 0)))
     ∷ []
 
-unfoldable pub whole_of : Joiner → List ℕ → Whole
-whole_of j m = checks (whole_checks j m) Plain
+unfoldable pub whole_of : Joiner → List ℕ → Result (Option ℕ) Refusal
+whole_of j m = checks (whole_checks j m) (Ok None)
 
 -- 'For 'FF' the destination becomes the source kept from the thread's last '42' command .., and '0000' is appended.'
 unfoldable pub completed : ℕ → List ℕ → List ℕ
 completed source m = two_bytes source ++ (drop 2 m ++ two_bytes successful)
 
-abbrev pub whole_answer : Whole → List ℕ → Answer
-whole_answer (NotWhole r) m = Refused r
-whole_answer Plain m = Message (length m)
-whole_answer (Response source) m = Message (length m + 2)
+abbrev pub whole_answer : Result (Option ℕ) Refusal → List ℕ → Result (Option ℕ) Refusal
+whole_answer (Err r) m = Err r
+whole_answer (Ok None) m = Ok (Some (length m))
+whole_answer (Ok (Some source)) m = Ok (Some (length m + 2))
 
 -- 'Both are written only on acceptance'; 'a piece refused at the '9000' tests stays written'
-abbrev pub whole_bytes : Whole → List ℕ → List ℕ
-whole_bytes (NotWhole r) m = m
-whole_bytes Plain m = m
-whole_bytes (Response source) m = completed source m
+abbrev pub whole_bytes : Result (Option ℕ) Refusal → List ℕ → List ℕ
+whole_bytes (Err r) m = m
+whole_bytes (Ok None) m = m
+whole_bytes (Ok (Some source)) m = completed source m
 
 -- ---- joining: 'buffer under 1,032 (9)' comes first, and changes nothing
 
 -- ''9601' asks for Get Next.'
-abbrev pub answer_to : Taking → Joiner → List ℕ → Answer
-answer_to (NotTaken r) j m = Refused r
-answer_to NotLast j m = More
-answer_to Last j m = whole_answer (whole_of j m) m
+abbrev pub answer_to : Result Piece Refusal → Joiner → List ℕ → Result (Option ℕ) Refusal
+answer_to (Err r) j m = Err r
+answer_to (Ok NotLast) j m = Ok None
+answer_to (Ok Last) j m = whole_answer (whole_of j m) m
 
 -- 'Acceptance and every joining refusal but 9 set the joined count to 0'
-abbrev pub count_to : Taking → ℕ → ℕ
-count_to (NotTaken r) n = 0
-count_to NotLast n = n
-count_to Last n = 0
+abbrev pub count_to : Result Piece Refusal → ℕ → ℕ
+count_to (Err r) n = 0
+count_to (Ok NotLast) n = n
+count_to (Ok Last) n = 0
 
 -- 'bytes already joined stay'; a piece 'refused earlier writes nothing'
-abbrev pub buffer_to : Taking → Joiner → List ℕ → List ℕ → List ℕ
-buffer_to (NotTaken r) j m buffer = buffer
-buffer_to NotLast j m buffer = onto m buffer
-buffer_to Last j m buffer = onto (whole_bytes (whole_of j m) m) buffer
+abbrev pub buffer_to : Result Piece Refusal → Joiner → List ℕ → List ℕ → List ℕ
+buffer_to (Err r) j m buffer = buffer
+buffer_to (Ok NotLast) j m buffer = onto m buffer
+buffer_to (Ok Last) j m buffer = onto (whole_bytes (whole_of j m) m) buffer
 
-unfoldable pub answer_of : Joiner → List ℕ → List ℕ → Answer
+unfoldable pub answer_of : Joiner → List ℕ → List ℕ → Result (Option ℕ) Refusal
 answer_of j piece buffer =
-    cond (ltb (length buffer) 1032) (Refused BufferTooSmall)
+    cond (ltb (length buffer) 1032) (Err BufferTooSmall)
     (answer_to (taking_of j.joined piece) j (joined_with j.joined piece buffer))
 
 unfoldable pub next_of : Joiner → List ℕ → List ℕ → Joiner
@@ -145,13 +139,13 @@ pub record Joins (j : Joiner) (piece before after : List ℕ) (r : Joined) : Typ
   pub buffer : after ≡ buffer_of j piece before
 
 -- 'hands on the joined message as a part'; what is no message hands on nothing
-abbrev pub part_for : Answer → List ℕ → List ℕ
-part_for (Message n) buffer = cond (leb n (length buffer)) (take n buffer) []
-part_for More buffer = []
-part_for (Refused r) buffer = []
+abbrev pub part_for : Result (Option ℕ) Refusal → List ℕ → List ℕ
+part_for (Ok (Some n)) buffer = cond (leb n (length buffer)) (take n buffer) []
+part_for (Ok None) buffer = []
+part_for (Err r) buffer = []
 
 -- the part handed on: its bytes, and that it stands at the start of the buffer itself
-pub record PartFor (answer : Answer) (buffer part : Bor (List ℕ)) : Type 0 where
+pub record PartFor (answer : Result (Option ℕ) Refusal) (buffer part : Bor (List ℕ)) : Type 0 where
   pub bytes : part.now ≡ part_for answer buffer.now
   pub place : LiesAt 0 buffer part
 
@@ -170,20 +164,20 @@ pub record Asks (thread : ℕ) (before after : List ℕ) (w : Result ℕ Refusal
 
 -- ---- 'Keeping a source takes a message: 1, 2, 3, type not '42' (15), 5.'; the reader has 19 at the place of 3 (request 04)
 
-abbrev pub keep_checks : Head → List (Bool × Keeping)
+abbrev pub keep_checks : Head → List (Bool × Result ⊤ Refusal)
 keep_checks h =
-    (not (eqb h.kind icc_command), NotKept NotThisPartsMessage)
-    ∷ (ltb 7 h.thread, NotKept ThreadAbove7)
+    (not (eqb h.kind icc_command), Err NotThisPartsMessage)
+    ∷ (ltb 7 h.thread, Err ThreadAbove7)
     ∷ []
 
-abbrev pub keeping_on : Result Head Refusal → Keeping
-keeping_on (Err r) = NotKept r
-keeping_on (Ok h) = checks (keep_checks h) Done
+abbrev pub keeping_on : Result Head Refusal → Result ⊤ Refusal
+keeping_on (Err r) = Err r
+keeping_on (Ok h) = checks (keep_checks h) (Ok tt)
 
 -- the message's source is kept for its thread; a refusal touches nothing
-abbrev pub keeper_on : Result Head Refusal → Keeping → Joiner → Joiner
-keeper_on (Ok h) Done j = with_source j h.thread h.source
-keeper_on (Ok h) (NotKept r) j = j
+abbrev pub keeper_on : Result Head Refusal → Result ⊤ Refusal → Joiner → Joiner
+keeper_on (Ok h) (Ok tt) j = with_source j h.thread h.source
+keeper_on (Ok h) (Err r) j = j
 keeper_on (Err r) k j = j
 
 unfoldable pub kept_of : Joiner → List ℕ → Kept

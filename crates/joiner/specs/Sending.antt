@@ -1,12 +1,10 @@
 -- What the PSAM sends, and a joiner that takes one piece after the other into one lent buffer.
-use Rattle.std.specs.Prelude.{ℕ, ◌+◌, ◌≤◌, ◌≡◌, List, [], ◌∷◌, ◌++◌, length, replicate}
+use Rattle.std.specs.Prelude.{ℕ, ◌+◌, ◌≤◌, ◌≡◌, List, [], ◌∷◌, ◌++◌, length, replicate, Option, Some, None, Result, Ok, Err}
 use Rattle.lists.specs.Lists.{onto}
 use Rattle.tapa.specs.Codes.{response}
 use Rattle.tapa.specs.declared.Refusal.{Refusal}
 use Rattle.message.specs.Message.{head_bytes}
 use Rattle.joiner.specs.declared.Joiner.{Joiner}
-use Rattle.joiner.specs.declared.Answer.{Answer}
-use Rattle.joiner.specs.declared.Answer.TheVariants.{More, Message, Refused}
 use Rattle.joiner.specs.Joining.{counting, answer_of, next_of, buffer_of, part_for}
 
 -- ---- pieces
@@ -31,7 +29,7 @@ response_sent destination source thread rest = head_bytes destination source res
 
 -- ---- joining, one call after the other
 
-abbrev pub answers_by : Joiner → List (List ℕ) → List ℕ → List Answer
+abbrev pub answers_by : Joiner → List (List ℕ) → List ℕ → List (Result (Option ℕ) Refusal)
 answers_by j [] buffer = []
 answers_by j (p ∷ ps) buffer = answer_of j p buffer ∷ answers_by (next_of j p buffer) ps (buffer_of j p buffer)
 
@@ -45,13 +43,13 @@ buffer_by j (p ∷ ps) buffer = buffer_by (next_of j p buffer) ps (buffer_of j p
 
 -- pieces that deliver a message: every answer but the last asks for Get Next, the last hands the message on, and the buffer starts with it
 pub record Delivers (j : Joiner) (first : List ℕ) (rest : List (List ℕ)) (message before : List ℕ) : Type 0 where
-  pub answers : answers_by j (sent first rest) before ≡ replicate (length rest) More ++ (Message (length message) ∷ [])
+  pub answers : answers_by j (sent first rest) before ≡ replicate (length rest) (Ok None) ++ (Ok (Some (length message)) ∷ [])
   pub next : joiner_by j (sent first rest) before ≡ counting j 0
   pub buffer : buffer_by j (sent first rest) before ≡ onto message before
-  pub part : part_for (Message (length message)) (buffer_by j (sent first rest) before) ≡ message
+  pub part : part_for (Ok (Some (length message))) (buffer_by j (sent first rest) before) ≡ message
 
 -- pieces that are refused once the last is there: 'it drops what it joined' (request 04), and 'bytes already joined stay'
 pub record Drops (j : Joiner) (first : List ℕ) (rest : List (List ℕ)) (r : Refusal) (before : List ℕ) : Type 0 where
-  pub answers : answers_by j (sent first rest) before ≡ replicate (length rest) More ++ (Refused r ∷ [])
+  pub answers : answers_by j (sent first rest) before ≡ replicate (length rest) (Ok None) ++ (Err r ∷ [])
   pub next : joiner_by j (sent first rest) before ≡ counting j 0
   pub buffer : buffer_by j (sent first rest) before ≡ onto (together first rest) before

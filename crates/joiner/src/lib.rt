@@ -17,44 +17,24 @@ pub struct Joiner {
     pub kept: [bool; 8],
 }
 
-// What a piece is, by its size and status.
+// What a piece is by its status: more follow, or it is the last.
 #[derive(Clone, Copy)]
-pub enum Taking {
+pub enum Piece {
     NotLast,
     Last,
-    Refused(Refusal),
 }
 
-// What the joined bytes are: a message as it stands, or a response to be sent to this address.
-#[derive(Clone, Copy)]
-pub enum Whole {
-    Plain,
-    Response(u16),
-    Refused(Refusal),
-}
-
-// Get Next is to be sent, or the buffer starts with a message of so many bytes.
-#[derive(Clone, Copy)]
-pub enum Answer {
-    More,
-    Message(usize),
-    Refused(Refusal),
-}
-
+// The answer to a piece: Get Next is to be sent (`None`), or the buffer starts with a message of so many
+// bytes.
 #[derive(Clone, Copy)]
 pub struct Joined {
-    pub answer: Answer,
+    pub answer: Result<Option<usize>, Refusal>,
     pub next: Joiner,
 }
 
-#[derive(Clone, Copy)]
-pub enum Keeping {
-    Done,
-    Refused(Refusal),
-}
-
+// Whether a source was kept, and the joiner that has it.
 #[derive(Clone, Copy)]
 pub struct Kept {
-    pub answer: Keeping,
+    pub answer: Result<(), Refusal>,
     pub next: Joiner,
 }

@@ -12,41 +12,27 @@ ghost use Rattle.std.specs.Prelude.{◌≡◌, ◌+◌, ◌≤◌, length};
 ghost use Rattle.lists.specs.Lists.{onto};
 ghost use Rattle.cutter.specs.Cutting.{start_of, thread_of, PartToCut, command_head, command_of, cutter_at, HandsOut, Steps, Begins, Firsts};
 
-use cutter::{Begun, Cut, Cutter, First, Handed, Start, Step};
+use cutter::{Begun, Cutter, First, Handed, Step};
 use tapa::Refusal;
 
 // ---- the start
 
 // Whether these bytes are a response that can be cut.
 #[tactic(auto, unfolding(cutter::specs::Cutting::start_of))]
-pub fn start_check(message: &[u8]) -> Start
+pub fn start_check(message: &[u8]) -> Result<u8, Refusal>
     ensures { result ≡ start_of message.now }
 {
-    match message_reader::read(message) {
-        Err(refusal) => Start::Refused(refusal),
-        Ok(head) => {
-            if head.kind != tapa::RESPONSE {
-                return Start::Refused(Refusal::NotThisPartsMessage);
-            }
-            if 7 < head.thread {
-                return Start::Refused(Refusal::ThreadAbove7);
-            }
-            if head.length < 2 {
-                return Start::Refused(Refusal::NoResponseCode);
-            }
-            Start::Ready(head.thread)
-        }
+    let head = message_reader::read(message)?;
+    if head.kind != tapa::RESPONSE {
+        return Err(Refusal::NotThisPartsMessage);
     }
-}
-
-// The thread of a start; 0 for a refused one.
-fn start_thread(start: Start) -> u8
-    ensures { result ≡ thread_of start }
-{
-    match start {
-        Start::Ready(thread) => thread,
-        Start::Refused(_) => 0,
+    if 7 < head.thread {
+        return Err(Refusal::ThreadAbove7);
     }
+    if head.length < 2 {
+        return Err(Refusal::NoResponseCode);
+    }
+    Ok(head.thread)
 }
 
 // The data to cut, as a part of the message; the empty part where the start is refused.
@@ -54,8 +40,8 @@ pub fn part_to_cut(message: &[u8]) -> &[u8]
     ensures { PartToCut message.entry result }
 {
     match start_check(message) {
-        Start::Ready(_) => message_reader::data_part(message),
-        Start::Refused(_) => &message[0..0],
+        Ok(_) => message_reader::data_part(message),
+        Err(_) => &message[0..0],
     }
 }
 
@@ -66,11 +52,7 @@ fn put_head(buffer: &mut [u8], thread: u8, p2: u8, count: u8)
     requires { 5 ≤ length buffer.old }
     ensures { buffer.new ≡ onto (command_head thread p2 count) buffer.old }
 {
-    buffer[0] = 0xB0;
-    buffer[1] = 0xFE;
-    buffer[2] = thread;
-    buffer[3] = p2;
-    buffer[4] = count;
+    buffer[..5].copy_from_slice(&[0xB0, 0xFE, thread, p2, count]);
 }
 
 // Writes a whole command at the start of a buffer.
@@ -91,13 +73,13 @@ pub fn cut_next(part: &[u8], thread: u8, at: usize, buffer: &mut [u8]) -> Handed
 {
     if buffer.len() < 254 {
         return Handed {
-            cut: Cut::Refused(Refusal::BufferTooSmall),
+            cut: Err(Refusal::BufferTooSmall),
             next: at,
         };
     }
     if part.len() <= at {
         return Handed {
-            cut: Cut::Done,
+            cut: Ok(None),
             next: at,
         };
     }
@@ -106,13 +88,13 @@ pub fn cut_next(part: &[u8], thread: u8, at: usize, buffer: &mut [u8]) -> Handed
         let end = at + 248;
         put_command(buffer, thread, 0x01, &part[at..end]);
         return Handed {
-            cut: Cut::Command(254),
+            cut: Ok(Some(254)),
             next: end,
         };
     }
     put_command(buffer, thread, 0x00, &part[at..]);
     Handed {
-        cut: Cut::Command(6 + left),
+        cut: Ok(Some(6 + left)),
         next: part.len(),
     }
 }
@@ -135,10 +117,9 @@ pub fn begin<'a>(message: &'a [u8]) -> Begun<'a>
     ensures { Begins message.entry result }
 {
     let start = start_check(message);
-    let thread = start_thread(start);
     Begun {
         start,
-        cutter: over(part_to_cut(message), thread),
+        cutter: over(part_to_cut(message), start.unwrap_or(0)),
     }
 }
 

@@ -10,9 +10,9 @@
 
 ghost use Rattle.std.specs.Prelude.{◌≡◌, ◌+◌, ◌-◌, ◌≤◌, length, take};
 ghost use Rattle.lists.specs.Lists.{onto};
-ghost use Rattle.joiner.specs.Joining.{fresh_joiner, counting, taking_of, joined_with, whole_of, whole_answer, whole_bytes, completed, Joins, PartFor, Asks};
+ghost use Rattle.joiner.specs.Joining.{fresh_joiner, taking_of, joined_with, whole_of, whole_answer, whole_bytes, completed, Joins, PartFor, Asks};
 
-use joiner::{Answer, Joined, Joiner, Taking, Whole};
+use joiner::{Joined, Joiner, Piece};
 use tapa::Refusal;
 
 // ---- one piece
@@ -24,30 +24,30 @@ const ALL_SENT: u16 = 0x9000;
 
 // What a piece is after so many joined bytes.
 #[tactic(auto, unfolding(joiner::specs::Joining::taking_of))]
-fn check_piece(joined: usize, piece: &[u8]) -> Taking
+fn check_piece(joined: usize, piece: &[u8]) -> Result<Piece, Refusal>
     ensures { result ≡ taking_of joined piece.now }
 {
     let n = piece.len();
     if n < 2 {
-        return Taking::Refused(Refusal::TooShort);
+        return Err(Refusal::TooShort);
     }
     if 254 < n {
-        return Taking::Refused(Refusal::TooLong);
+        return Err(Refusal::TooLong);
     }
     let status = tapa::pair(piece[n - 2], piece[n - 1]);
     if status != MORE_DATA {
         if status != ALL_SENT {
-            return Taking::Refused(Refusal::StatusNotUsable);
+            return Err(Refusal::StatusNotUsable);
         }
         if 1034 - n < joined {
-            return Taking::Refused(Refusal::TooLong);
+            return Err(Refusal::TooLong);
         }
-        return Taking::Last;
+        return Ok(Piece::Last);
     }
     if 1034 - n < joined {
-        return Taking::Refused(Refusal::TooLong);
+        return Err(Refusal::TooLong);
     }
-    Taking::NotLast
+    Ok(Piece::NotLast)
 }
 
 // Writes a piece's data from where the last ended, and answers where it ends.
@@ -76,19 +76,16 @@ fn complete(m: usize, source: u16, buffer: &mut [u8])
 }
 
 // Judges the first m bytes of the buffer, and puts to a response what it lacks.
-fn finish(joiner: Joiner, m: usize, buffer: &mut [u8]) -> Answer
+fn finish(joiner: Joiner, m: usize, buffer: &mut [u8]) -> Result<Option<usize>, Refusal>
     requires { (m ≤ 1032) × (1032 ≤ length buffer.old) }
     ensures { (result ≡ whole_answer (whole_of joiner (take m buffer.old)) (take m buffer.old))
         × (buffer.new ≡ onto (whole_bytes (whole_of joiner (take m buffer.old)) (take m buffer.old)) buffer.old) }
 {
-    match psam_whole::judge(joiner, &buffer[0..m]) {
-        Whole::Refused(refusal) => Answer::Refused(refusal),
-        Whole::Plain => Answer::Message(m),
-        Whole::Response(source) => {
-            complete(m, source, buffer);
-            Answer::Message(m + 2)
-        }
-    }
+    let Some(source) = psam_whole::judge(joiner, &buffer[0..m])? else {
+        return Ok(Some(m));
+    };
+    complete(m, source, buffer);
+    Ok(Some(m + 2))
 }
 
 // ---- the joiner
@@ -104,68 +101,45 @@ pub fn fresh() -> Joiner
     }
 }
 
-// The joiner with another joined count.
-fn counting(joiner: Joiner, joined: usize) -> Joiner
-    ensures { result ≡ counting joiner joined }
+// Takes one piece from the PSAM, in place. Nothing is joined once a piece is refused or the last is
+// there; only a buffer that is too small leaves the count.
+fn join_in(joiner: &mut Joiner, piece: &[u8], buffer: &mut [u8]) -> Result<Option<usize>, Refusal>
+    ensures { Joins joiner.old piece.now buffer.old buffer.new (record { answer = result; next = joiner.new }) }
 {
-    let sources = joiner.sources;
-    let kept = joiner.kept;
-    Joiner {
-        joined,
-        sources,
-        kept,
+    if buffer.len() < 1032 {
+        return Err(Refusal::BufferTooSmall);
+    }
+    let before = *joiner;
+    joiner.joined = 0;
+    let taken = check_piece(before.joined, piece)?;
+    let m = add_piece(before.joined, piece, buffer);
+    match taken {
+        Piece::NotLast => {
+            joiner.joined = m;
+            Ok(None)
+        }
+        Piece::Last => finish(before, m, buffer),
     }
 }
 
-// Takes one piece from the PSAM.
+// Takes one piece from the PSAM, and hands back the joiner that goes on.
 pub fn join(joiner: Joiner, piece: &[u8], buffer: &mut [u8]) -> Joined
     ensures { Joins joiner piece.now buffer.old buffer.new result }
 {
-    if buffer.len() < 1032 {
-        return Joined {
-            answer: Answer::Refused(Refusal::BufferTooSmall),
-            next: joiner,
-        };
-    }
-    let joined = joiner.joined;
-    match check_piece(joined, piece) {
-        Taking::Refused(refusal) => Joined {
-            answer: Answer::Refused(refusal),
-            next: counting(joiner, 0),
-        },
-        Taking::NotLast => {
-            let m = add_piece(joined, piece, buffer);
-            Joined {
-                answer: Answer::More,
-                next: counting(joiner, m),
-            }
-        }
-        Taking::Last => {
-            let m = add_piece(joined, piece, buffer);
-            Joined {
-                answer: finish(joiner, m, buffer),
-                next: counting(joiner, 0),
-            }
-        }
-    }
+    let mut next = joiner;
+    let answer = join_in(&mut next, piece, buffer);
+    Joined { answer, next }
 }
 
 // ---- what is handed on, and asked for
 
 // The message that an answer hands on, as a part of the buffer; the empty part for any other.
-pub fn joined_part(answer: Answer, buffer: &[u8]) -> &[u8]
+pub fn joined_part(answer: Result<Option<usize>, Refusal>, buffer: &[u8]) -> &[u8]
     ensures { PartFor answer buffer.entry result }
 {
     match answer {
-        Answer::Message(n) => {
-            if n <= buffer.len() {
-                &buffer[0..n]
-            } else {
-                &buffer[0..0]
-            }
-        }
-        Answer::More => &buffer[0..0],
-        Answer::Refused(_) => &buffer[0..0],
+        Ok(Some(n)) if n <= buffer.len() => &buffer[0..n],
+        _ => &buffer[0..0],
     }
 }
 
@@ -176,10 +150,6 @@ pub fn get_next(thread: u8, buffer: &mut [u8]) -> Result<usize, Refusal>
     if buffer.len() < 5 {
         return Err(Refusal::BufferTooSmall);
     }
-    buffer[0] = 0xB0;
-    buffer[1] = 0xFC;
-    buffer[2] = thread;
-    buffer[3] = 0x00;
-    buffer[4] = 0x00;
+    buffer[..5].copy_from_slice(&[0xB0, 0xFC, thread, 0x00, 0x00]);
     Ok(5)
 }

@@ -4,56 +4,35 @@
 // that thread: joiner `kept_of`. psam_whole reads it when the PSAM's response is joined.
 #![tactic(auto)]
 
-ghost use Rattle.std.specs.Prelude.{◌≡◌, ◌≤◌};
-ghost use Rattle.joiner.specs.Joining.{with_source, kept_of};
+ghost use Rattle.std.specs.Prelude.{◌≡◌};
+ghost use Rattle.joiner.specs.Joining.{kept_of};
 
-use joiner::{Joiner, Keeping, Kept};
+use joiner::{Joiner, Kept};
 use tapa::Refusal;
-
-// The joiner with a source in a thread's place.
-fn with_source(joiner: Joiner, thread: usize, source: u16) -> Joiner
-    requires { thread ≤ 7 }
-    ensures { result ≡ with_source joiner thread source }
-{
-    let joined = joiner.joined;
-    let mut sources = joiner.sources;
-    let mut kept = joiner.kept;
-    sources[thread] = source;
-    kept[thread] = true;
-    Joiner {
-        joined,
-        sources,
-        kept,
-    }
-}
 
 // Keeps a command's source for its thread.
 #[tactic(auto, unfolding(joiner::specs::Joining::kept_of))]
+fn keep_in(joiner: &mut Joiner, message: &[u8]) -> Result<(), Refusal>
+    ensures { record { answer = result; next = joiner.new } ≡ kept_of joiner.old message.now }
+{
+    let head = message_reader::read(message)?;
+    if head.kind != tapa::ICC_COMMAND {
+        return Err(Refusal::NotThisPartsMessage);
+    }
+    if 7 < head.thread {
+        return Err(Refusal::ThreadAbove7);
+    }
+    let thread = usize::from(head.thread);
+    joiner.sources[thread] = head.source;
+    joiner.kept[thread] = true;
+    Ok(())
+}
+
+// Keeps a command's source for its thread, and hands back the joiner that has it.
 pub fn keep(joiner: Joiner, message: &[u8]) -> Kept
     ensures { result ≡ kept_of joiner message.now }
 {
-    match message_reader::read(message) {
-        Err(refusal) => Kept {
-            answer: Keeping::Refused(refusal),
-            next: joiner,
-        },
-        Ok(head) => {
-            if head.kind != tapa::ICC_COMMAND {
-                return Kept {
-                    answer: Keeping::Refused(Refusal::NotThisPartsMessage),
-                    next: joiner,
-                };
-            }
-            if 7 < head.thread {
-                return Kept {
-                    answer: Keeping::Refused(Refusal::ThreadAbove7),
-                    next: joiner,
-                };
-            }
-            Kept {
-                answer: Keeping::Done,
-                next: with_source(joiner, head.thread as usize, head.source),
-            }
-        }
-    }
+    let mut next = joiner;
+    let answer = keep_in(&mut next, message);
+    Kept { answer, next }
 }

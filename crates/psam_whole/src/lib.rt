@@ -8,7 +8,7 @@
 ghost use Rattle.std.specs.Prelude.{◌≡◌, ◌≤◌, length};
 ghost use Rattle.joiner.specs.Joining.{due_for, whole_of};
 
-use joiner::{Joiner, Whole};
+use joiner::Joiner;
 use tapa::Refusal;
 
 // The length that joined bytes are to announce: their data, and the code that a response lacks.
@@ -25,34 +25,32 @@ fn due_for(message: &[u8]) -> usize
 
 // What the joined bytes are.
 #[tactic(auto, unfolding(joiner::specs::Joining::whole_of))]
-pub fn judge(joiner: Joiner, message: &[u8]) -> Whole
+pub fn judge(joiner: Joiner, message: &[u8]) -> Result<Option<u16>, Refusal>
     ensures { result ≡ whole_of joiner message.now }
 {
     if message.len() < 8 {
-        return Whole::Refused(Refusal::TooShort);
+        return Err(Refusal::TooShort);
     }
-    let thread = message[5] as usize;
+    let thread = usize::from(message[5]);
     if 7 < thread {
-        return Whole::Refused(Refusal::ThreadAbove7);
+        return Err(Refusal::ThreadAbove7);
     }
-    let announced = tapa::pair(message[6], message[7]) as usize;
+    let announced = usize::from(tapa::pair(message[6], message[7]));
     if 1024 < announced {
-        return Whole::Refused(Refusal::TooLong);
+        return Err(Refusal::TooLong);
     }
     let due = due_for(message);
     if due < announced {
-        return Whole::Refused(Refusal::FewerThanAnnounced);
+        return Err(Refusal::FewerThanAnnounced);
     }
     if announced < due {
-        return Whole::Refused(Refusal::MoreThanAnnounced);
+        return Err(Refusal::MoreThanAnnounced);
     }
     if message[4] != tapa::RESPONSE {
-        return Whole::Plain;
+        return Ok(None);
     }
-    let kept = joiner.kept;
-    if kept[thread] {
-        let sources = joiner.sources;
-        return Whole::Response(sources[thread]);
+    if !joiner.kept[thread] {
+        return Err(Refusal::NoSourceKept);
     }
-    Whole::Refused(Refusal::NoSourceKept)
+    Ok(Some(joiner.sources[thread]))
 }

@@ -23,7 +23,9 @@ pub struct Event {
     pub location: u16,
 }
 
-// At most 100 events, oldest first from the ring's start on; each is packed into a number.
+// At most 100 events, oldest first from the ring's start on; each is packed into a number (`one-pack`), so
+// that the array begins as zeros. Its law, `Lawful`, stays a clause: a queue is known by its events and its
+// start alone (`one-queue`).
 #[derive(Clone, Copy)]
 pub struct Queue {
     pub places: [u32; 100],
@@ -31,7 +33,8 @@ pub struct Queue {
     pub count: usize,
 }
 
-// What a search is by (Search Type Coding), and what it is for.
+// What a search is by (Search Type Coding), and what it is for. `by` is the byte itself: `known_search`
+// and `meets` are said of every byte, and an unknown one has an answer of its own.
 #[derive(Clone, Copy)]
 pub struct Search {
     pub by: u8,
@@ -89,7 +92,7 @@ pub fn place_from(start: usize, further: usize) -> usize
 pub fn pack(event: Event) -> u32
     ensures { Packs event result }
 {
-    event.kind as u32 * 65536 + event.location as u32
+    u32::from(event.kind) * 65536 + u32::from(event.location)
 }
 
 pub fn unpack(x: u32) -> Event

@@ -3,8 +3,8 @@ use Rattle.std.proofs.Common.{refl, sym}
 use Rattle.cutter.proofs.Laws.{hands-part, hands_none}
 use Rattle.psam_commands.proofs.part_to_cut.Goals as goal
 
-pub returns-in-Ready : goal.returns-in-Ready
-returns-in-Ready c = hands-part c.args.message _ _ (sym c.in-Ready.ensures) c.data_part.ensures
+pub returns-in-Ok : goal.returns-in-Ok
+returns-in-Ok c = hands-part c.args.message _ _ (sym c.in-Ok.ensures) c.data_part.ensures
 
-pub returns-in-Refused : goal.returns-in-Refused
-returns-in-Refused c = hands_none c.args.message _ _ (sym c.in-Refused.ensures) refl refl
+pub returns-in-Err : goal.returns-in-Err
+returns-in-Err c = hands_none c.args.message _ _ (sym c.in-Err.ensures) refl refl
