@@ -12,14 +12,15 @@ use Rattle.std.specs.declared.option.Option.{Option}
 use Rattle.std.specs.declared.option.Option.TheVariants.{None, Some}
 use Rattle.std.specs.Bool.{IsTrue}
 use Rattle.std.specs.Fn.{Called}
-use Rattle.std.specs.List.{list_any}
+use Rattle.std.specs.List.{list_any, count_by}
 use Rattle.std.specs.Option.{MatchOption, IfSome, IsSomeAnd, option_map}
 use Rattle.std.specs.Iterator.Runs.{Run, ItemsMapToReversed, AllItemsGive, IsFirstToGive, CallKeepsClosure}
 use Rattle.std.proofs.lemmas.List.{get_or-take, length-take-le}
 use Rattle.std.proofs.lemmas.List.Folds.{list_any_more}
+use Rattle.std.proofs.lemmas.List.Sums.{count_by_more_yes, count_by_more_no}
 use lib.Dec.{eqb}
 use borrow.Author.Tests.{eqb-true, eqb-false}
-use Rattle.lists.specs.Lists.{some_of, find}
+use Rattle.lists.specs.Lists.{some_of, find, count}
 use Rattle.lists.proofs.Tests.{split}
 use Rattle.lists.proofs.Arrays.{len}
 use Rattle.lists.specs.Arrays.{held}
@@ -33,6 +34,16 @@ module _ {A : Type 0} (unpack : ℕ → A) (q : A → Bool) (l : List ℕ) where
       let e : list_any p (take (n + 1) l) ≡ (list_any p (take n l) || p (get_or l n 0)) = list_any_more p l n 0 (omega arith) in
       ap (λ (k : ℕ). list_any p (take k l)) (sym (add-one n))
       ∙ (e ∙ (ap (λ (b : Bool). b || p (get_or l n 0)) (some-any n (omega arith)) ∙ or_comm (some_of q (held unpack l n)) (p (get_or l n 0))))
+
+  -- how many cells pass
+  pub count-by : (n : ℕ) → n ≤ length l → count_by (λ x. q (unpack x)) (take n l) ≡ count q (held unpack l n)
+  count-by zero h = refl
+  count-by (suc n) h =
+      let p : ℕ → Bool = λ (x : ℕ). q (unpack x) in
+      ap (λ (k : ℕ). count_by p (take k l)) (sym (add-one n))
+      ∙ split (q (unpack (get_or l n 0)))
+      (λ e. rw e (count_by_more_yes p l n 0 (omega arith) e ∙ omega (arith, count-by n (omega arith))))
+      (λ e. rw e (count_by_more_no p l n 0 (omega arith) e ∙ omega (arith, count-by n (omega arith))))
 
   -- no cell in use passes
   abbrev pub NonePass : ℕ → Type 0

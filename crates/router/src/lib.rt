@@ -143,16 +143,10 @@ pub fn count_owed(list: &[u64; 48], len: usize) -> usize
     requires { places.Lawful list.now len }
     ensures { result ≡ count_of is_owed (places_of list.now len) }
 {
-    let mut owed = 0;
-    let mut i = 0;
-    while i < len {
-        let place = router_walks::place_at(list, len, i);
-        if place.owed {
-            owed += 1;
-        }
-        i += 1;
-    }
-    owed
+    list[..len]
+        .iter()
+        .filter(|x| router_tests::place_of(**x).owed)
+        .count()
 }
 
 // How many places of a list are open: every one that is not owed.

@@ -30,11 +30,8 @@ fn tally_with(outcome: Outcome, tally: Tally) -> Tally
         Outcome::Passed { .. } => next.accepted += 1,
         Outcome::Answered { .. } => next.answered += 1,
         Outcome::Given { .. } => next.given += 1,
-        Outcome::Turned { .. } => {}
-        Outcome::Swallowed { .. } => {}
-        Outcome::Event => {}
-        Outcome::Reset { .. } => {}
-        Outcome::Refused(_) => {}
+        Outcome::Turned { .. } | Outcome::Swallowed { .. } | Outcome::Event => {}
+        Outcome::Reset { .. } | Outcome::Refused(_) => {}
     }
     next
 }
@@ -44,13 +41,11 @@ fn after_step(cursor: Cursor, outcome: Outcome, end: usize) -> Cursor
     requires { Sound cursor }
     ensures { result ≡ went_by cursor outcome end }
 {
-    let counts = cursor.tally;
-    let tally = tally_with(outcome, counts);
     Cursor {
         at: end,
         number: cursor.number + 1,
         step: cursor.step + 1,
-        tally,
+        tally: tally_with(outcome, cursor.tally),
         stage: Stage::Steps,
     }
 }
@@ -60,14 +55,14 @@ fn stepped(cursor: Cursor, done: Step, reply: [u8; 10], end: usize) -> Went
     requires { Sound cursor }
     ensures { result ≡ came_to cursor done reply end }
 {
-    let step = cursor.step;
-    let outcome = done.outcome;
-    let after = after_step(cursor, outcome, end);
     Went {
-        item: Item::Came { step, outcome },
+        item: Item::Came {
+            step: cursor.step,
+            outcome: done.outcome,
+        },
         reply,
         more: true,
-        cursor: after,
+        cursor: after_step(cursor, done.outcome, end),
         len: done.len,
     }
 }
@@ -136,14 +131,12 @@ fn sum_up(list: &[u64; 48], len: usize, tally: Tally) -> Totals
     requires { places.Lawful list.now len }
     ensures { result ≡ totals_of tally (places_of list.now len) }
 {
-    let waiting = router::count_open(list, len);
-    let owing = router::count_owed(list, len);
     Totals {
         accepted: tally.accepted,
         answered: tally.answered,
         given: tally.given,
-        waiting,
-        owing,
+        waiting: router::count_open(list, len),
+        owing: router::count_owed(list, len),
     }
 }
 
@@ -151,32 +144,20 @@ fn sum_up(list: &[u64; 48], len: usize, tally: Tally) -> Totals
 fn hands_out(item: Item) -> bool
     ensures { result ≡ hands_out item }
 {
-    match item {
-        Item::Nothing => false,
-        Item::Came { .. } => true,
-        Item::Over(_) => true,
-        Item::Broken(_) => true,
-        Item::Refused(_) => true,
-        Item::TooLong => true,
-    }
+    !matches!(item, Item::Nothing)
 }
 
 // The last item: nothing is left after it.
 fn ended(cursor: Cursor, item: Item, len: usize) -> Went
     ensures { result ≡ ended_at cursor item len }
 {
-    let tally = cursor.tally;
-    let more = hands_out(item);
     Went {
         item,
         reply: [0; 10],
-        more,
+        more: hands_out(item),
         cursor: Cursor {
-            at: cursor.at,
-            number: cursor.number,
-            step: cursor.step,
-            tally,
             stage: Stage::Settled(Item::Nothing),
+            ..cursor
         },
         len,
     }
@@ -188,8 +169,7 @@ fn ended(cursor: Cursor, item: Item, len: usize) -> Went
 fn look_ahead(cursor: Cursor, input: &[u8]) -> Ahead
     ensures { result ≡ ahead_of input.now cursor }
 {
-    let stage = cursor.stage;
-    if let Stage::Settled(item) = stage {
+    if let Stage::Settled(item) = cursor.stage {
         return Ahead::Last(item);
     }
     if 65536 < input.len() {
@@ -237,8 +217,7 @@ pub fn next_in(
             cells, count, list, len, cursor, address, end,
         ),
         Ahead::Over => {
-            let tally = cursor.tally;
-            let sums = sum_up(list, len, tally);
+            let sums = sum_up(list, len, cursor.tally);
             ended(cursor, Item::Over(sums), len)
         }
         Ahead::Last(item) => ended(cursor, item, len),
@@ -265,15 +244,12 @@ pub fn session_of(
 fn turn_of(went: Went, cells: [u32; 16], count: usize, list: [u64; 48]) -> Turn
     ensures { result ≡ turn_of went cells count list }
 {
-    let item = went.item;
     let reply = went.reply;
-    let cursor = went.cursor;
-    let next = session_of(cells, count, list, went.len, cursor);
     Turn {
-        item,
+        item: went.item,
         reply,
         more: went.more,
-        next,
+        next: session_of(cells, count, list, went.len, went.cursor),
     }
 }
 
@@ -283,10 +259,15 @@ pub fn next(session: Session, input: &[u8]) -> Turn
     ensures { Turns input.now session result }
 {
     let router = session.router;
-    let cursor = session.cursor;
-    let count = router.count;
     let mut cells = router.cells;
     let mut list = router.list;
-    let went = next_in(&mut cells, count, &mut list, router.len, cursor, input);
-    turn_of(went, cells, count, list)
+    let went = next_in(
+        &mut cells,
+        router.count,
+        &mut list,
+        router.len,
+        session.cursor,
+        input,
+    );
+    turn_of(went, cells, router.count, list)
 }

@@ -4,4 +4,4 @@ use Rattle.run.proofs.Turns.{sums}
 use Rattle.session_turns.proofs.sum_up.Goals as goal
 
 pub returns : goal.returns
-returns c = sums c.args.tally (places_of c.args.list.now c.args.len) _ _ c.count_open-waiting.ensures c.count_owed-owing.ensures
+returns c = sums c.args.tally (places_of c.args.list.now c.args.len) _ _ c.count_open.ensures c.count_owed.ensures
