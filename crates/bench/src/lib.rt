@@ -255,18 +255,22 @@ impl Parts {
         ensures { Right result.next }
     {
         let begun = start::start_with(self.rows);
-        let answer = begun.answer;
-        let router = begun.router;
-        let rows = table::no_rows();
-        let came = answers::of_checked(answer);
         let mut next = self;
-        next.rows = rows;
-        if let Ok(()) = answer {
-            next.router = router;
-            next.started = true;
-            return Asked { came, next };
+        next.rows = table::no_rows();
+        match begun {
+            Ok(router) => {
+                next.router = router;
+                next.started = true;
+                Asked {
+                    came: answers::of_checked(Ok(())),
+                    next,
+                }
+            }
+            Err(refusal) => Asked {
+                came: answers::of_checked(Err(refusal)),
+                next,
+            },
         }
-        Asked { came, next }
     }
 
     // Tag 1B: a handler that was replaced.
@@ -749,8 +753,7 @@ pub fn fresh() -> Bench
     let queue = event_ring::fresh();
     let joiner = psam_pieces::fresh();
     let rows = table::no_rows();
-    let begun = start::start_with(rows);
-    let router = begun.router;
+    let router = start::blank();
     let book = store_entries::fresh();
     let parts = Parts {
         queue,

@@ -23,7 +23,7 @@ use Rattle.rules.specs.Apply.{applied, answered_rows}
 use Rattle.rules.proofs.Sums.{row, rows, one-passed}
 use Rattle.router.specs.declared.Router.{Router}
 use Rattle.router.specs.Router.{view_of, Lawful}
-use Rattle.start.specs.Start.{start_of}
+use Rattle.start.specs.Start.{start_of, router_left}
 use Rattle.start.proofs.Starts.{lent_view, lent-law}
 use Rattle.fields.specs.Fields.{file_of, row_of, step_of, field_bytes}
 use Rattle.text.specs.Text.{ascii, decimal_of}
@@ -43,7 +43,7 @@ unfolding judge_table shaped category_of sub_address_of multi
 accepted = refl
 
 abbrev began : Router
-began = (start_of lent).router
+began = router_left (start_of lent)
 
 -- the till asks the PSAM, and the PSAM answers
 abbrev ask : List ℕ

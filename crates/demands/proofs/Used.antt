@@ -12,7 +12,7 @@ use Rattle.table.specs.declared.Rows.{Rows}
 use Rattle.table.specs.Table.{Held, no_rows, listed}
 use Rattle.table.proofs.Judged.{none-proper}
 use Rattle.table.proofs.Read.{none-held}
-use Rattle.setup.specs.declared.SetUp.{SetUp}
+use Rattle.setup.specs.declared.Accepted.{Accepted}
 use Rattle.setup.specs.Setup.{Settled}
 use Rattle.places.specs.Places.{stands_in}
 use Rattle.rules.specs.View.{View}
@@ -22,7 +22,7 @@ use Rattle.rules.specs.Judge.{Call, message, give_up, replaced, judge, judge_rep
 use Rattle.rules.specs.Apply.{applied, written, sent}
 use Rattle.router.specs.declared.Router.{Router}
 use Rattle.router.specs.Router.{view_of, Lawful}
-use Rattle.start.specs.Start.{blank, start_from, start_with, start_of}
+use Rattle.start.specs.Start.{blank, start_from, start_with, start_of, router_left}
 use Rattle.start.proofs.Starts.{fresh-lawful, from-law, start-law, lent-law}
 use Rattle.history.specs.History.{Entry, goes_out}
 use Rattle.history.specs.Marks.{Honest}
@@ -36,13 +36,13 @@ use Rattle.demands.specs.Used.{Fresh, made, Used, started, routed, gave-up, was-
 pub blank-fresh : Fresh blank
 blank-fresh = record { law = fresh-lawful no_rows none-held none-proper; no-places = refl }
 
-pub start-from-fresh : (u : SetUp) → Settled u → Fresh (start_from u).router
+pub start-from-fresh : (u : Accepted) → Settled u → Fresh (start_from u)
 start-from-fresh u s = record { law = from-law u s; no-places = refl }
 
-pub start-with-fresh : (t : Rows) → Held t → Fresh (start_with t).router
+pub start-with-fresh : (t : Rows) → Held t → Fresh (router_left (start_with t))
 start-with-fresh t h = record { law = start-law t h; no-places = refl }
 
-pub start-fresh : (rows : List Row) → Fresh (start_of rows).router
+pub start-fresh : (rows : List Row) → Fresh (router_left (start_of rows))
 start-fresh rows = record { law = lent-law rows; no-places = refl }
 
 -- ---- the bytes to send

@@ -3,11 +3,11 @@ use Rattle.std.specs.Prelude.{ℕ, ◌≡◌, List}
 use Rattle.table.specs.declared.Row.{Row}
 use Rattle.table.specs.declared.Rows.{Rows}
 use Rattle.table.specs.Table.{Held}
-use Rattle.setup.specs.declared.SetUp.{SetUp}
+use Rattle.setup.specs.declared.Accepted.{Accepted}
 use Rattle.setup.specs.Setup.{Settled}
 use Rattle.router.specs.declared.Router.{Router}
 use Rattle.router.specs.Router.{view_of, Lawful}
-use Rattle.start.specs.Start.{blank, start_from, start_with, start_of}
+use Rattle.start.specs.Start.{blank, start_from, start_with, start_of, router_left}
 use Rattle.history.specs.Admitted.{Admitted}
 use Rattle.history.specs.History.{Entry}
 use Rattle.history.specs.Marks.{Honest}
@@ -60,9 +60,9 @@ pub record Demands : Type 0 where
   -- 3. Every public start hands back a fresh router, and every run of the code from a fresh router keeps the promise; each premise on marks is needed,
   -- and lets in what a stronger one would shut out
   pub blank-start : Fresh blank
-  pub start-from : (set : SetUp) → Settled set → Fresh (start_from set).router
-  pub start-with : (rows : Rows) → Held rows → Fresh (start_with rows).router
-  pub lent-start : (rows : List Row) → Fresh (start_of rows).router
+  pub start-from : (table : Accepted) → Settled table → Fresh (start_from table)
+  pub start-with : (rows : Rows) → Held rows → Fresh (router_left (start_with rows))
+  pub lent-start : (rows : List Row) → Fresh (router_left (start_of rows))
   pub kept : (first : Router) → Fresh first → (h : List Entry) (r : Router) → Used first h r → Kept first h r
   pub marks-needed : Needed
   pub marks-admitted : Admitted

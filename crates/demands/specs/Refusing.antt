@@ -13,7 +13,7 @@ use Rattle.rules.specs.declared.Outcome.TheVariants as outcome
 use Rattle.router.specs.declared.Router.{Router}
 use Rattle.router.specs.declared.Routed.{Routed}
 use Rattle.router.specs.Router as router
-use Rattle.start.specs.Start.{blank, start_of}
+use Rattle.start.specs.Start.{blank, start_of, router_left}
 use Rattle.replies.specs.Replies.{Replies}
 use Rattle.queue.specs.declared.Queue.{Queue}
 use Rattle.queue.specs.Places as queue
@@ -77,7 +77,7 @@ pub record Refusing : Type 0 where
       → (k : Refusal) → w ≡ Err k → after ≡ before
   pub reply : (h : Head) (part before after : List ℕ) (a : Result (Option ℕ) Refusal) → Replies h part before after a → (k : Refusal) → a ≡ Err k → after ≡ before
   -- the table: a refused one leaves a router over no rows
-  pub start : (rows : List Row) (k : Refusal) → (start_of rows).answer ≡ Err k → (start_of rows).router ≡ blank
+  pub start : (rows : List Row) (k : Refusal) → start_of rows ≡ Err k → router_left (start_of rows) ≡ blank
   -- the router
   pub route : (r : Router) → router.Lawful r → (message before after : List ℕ) (out : Routed) → router.Routes r message before after out → Stays r before after out
   pub give-up : (r : Router) → router.Lawful r → (thread address : ℕ) (before after : List ℕ) (out : Routed) → router.GivesUp r thread address before after out

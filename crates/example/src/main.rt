@@ -3,18 +3,19 @@
 // docs/LIBRARY.md walks through it. Each line printed is what is to be sent on.
 #![tactic(auto)]
 
+ghost use Rattle.std.specs.Prelude.{IfOk};
 ghost use Rattle.router.specs.Router.{Lawful};
 
 use router::Router;
-use start::Started;
 use std::io::Print;
 use table::Row;
+use tapa::Refusal;
 use text::Writer;
 
 // A fresh router over the till driver '0100' and the security module '0001', both open: two lent
 // rows, read in order.
-fn begin() -> Started
-    ensures { Lawful result.router }
+fn begin() -> Result<Router, Refusal>
+    ensures { IfOk result Lawful }
 {
     let till = Row {
         address: 0x0100,
@@ -26,7 +27,7 @@ fn begin() -> Started
     };
     let mut rows = [till; 17];
     rows[1] = module;
-    start::start_from(setup::set_up_own(rows, 2))
+    Ok(start::start_from(setup::set_up_own(rows, 2)?))
 }
 
 // Sends a part on: here, as a line of hexadecimal digits.
@@ -54,14 +55,11 @@ fn carry(rt: HostRuntime, router: Router, message: &[u8]) -> Router
 }
 
 fn main(rt: HostRuntime) {
-    let started = begin();
-    // A refused table leaves a router that carries nothing, so the answer is looked at first.
-    let answer = started.answer;
-    let Ok(()) = answer else {
+    // A refused table starts no router.
+    let Ok(kiosk) = begin() else {
         let _ = rt.stderr().write_all(b"example: the table is refused\n");
         return;
     };
-    let kiosk = started.router;
     // Thread 3: an ICC command with one data byte, and its response with the code '0000'.
     let asked = carry(rt, kiosk, b"\x00\x01\x01\x00\x42\x03\x00\x01\xAA");
     let answered = carry(rt, asked, b"\x01\x00\x00\x01\xFF\x03\x00\x02\x00\x00");

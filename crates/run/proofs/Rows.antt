@@ -15,11 +15,10 @@ use Rattle.table.specs.declared.Rows.{Rows}
 use Rattle.table.specs.Table.{held_rows, Held, no_rows, with_row, rows_read, judge_table, judge_rows}
 use Rattle.table.proofs.Judged.{accepted, judge-reverse, none-proper}
 use Rattle.table.proofs.Read.{none-held, with-held, read_held, read-rows, read_next, judge-read}
-use Rattle.start.specs.declared.Started.{Started}
 use Rattle.router.specs.declared.Router.{Router}
 use Rattle.router.specs.Router.{view_of}
-use Rattle.start.specs.Start.{blank, start_with}
-use Rattle.start.proofs.Starts.{fresh-lawful, start-law, start-view}
+use Rattle.start.specs.Start.{blank, start_with, answer_of, router_left}
+use Rattle.start.proofs.Starts.{fresh-lawful, start-answers, start-law, start-view}
 use Rattle.rules.specs.View.{View}
 use Rattle.fields.specs.declared.NextRow.{NextRow}
 use Rattle.fields.specs.declared.NextRow.TheVariants.{Row, Torn, Over}
@@ -77,11 +76,11 @@ stage-torn b n k e = rw e
 pub stage-checked : (b : Bool) (n : ℕ) (k found : Result ⊤ Refusal) → b ≡ false → k ≡ found → checked_stage found ≡ stage_of b n k
 stage-checked b n k found e f = rw (e, f)
 
-pub starts : (x : Heading) (d : Started) (g : Stage) → d ≡ start_with x.rows → g ≡ stage_of x.torn x.number d.answer
-    → ◌≡◌ {A = Session} (record { cursor = cursor_at x.at x.number g; router = d.router }) (started_by x)
-starts x d g e f =
-    let k : g ≡ stage_of x.torn x.number (judge_rows x.rows) = f ∙ ap (λ (y : Started). stage_of x.torn x.number y.answer) e in
-    λ i. record { cursor = cursor_at x.at x.number (k i); router = (e i).router }
+pub starts : (x : Heading) (d : Result Router Refusal) → d ≡ start_with x.rows
+    → ◌≡◌ {A = Session} (record { cursor = cursor_at x.at x.number (stage_of x.torn x.number (answer_of d)); router = router_left d }) (started_by x)
+starts x d e =
+    let k : answer_of d ≡ judge_rows x.rows = ap answer_of e ∙ start-answers x.rows in
+    λ i. record { cursor = cursor_at x.at x.number (stage_of x.torn x.number (k i)); router = router_left (e i) }
 
 -- ---- the state has these items, and keeps the law
 
@@ -107,7 +106,7 @@ small-checked (Err r) = tt
 -- zs are the rows read so far, in order
 module _ (s : List ℕ) (fit : length s ≤ 65536) where
   checked-left : (t : Rows) (at n : ℕ) (k : Result ⊤ Refusal) → judge_rows t ≡ k
-      → items_left s (view_of (start_with t).router) (cursor_at at n (checked_stage k)) ≡ checked_items k (held_rows t) (steps_at s n at)
+      → items_left s (view_of (router_left (start_with t))) (cursor_at at n (checked_stage k)) ≡ checked_items k (held_rows t) (steps_at s n at)
   unfolding items_left
   checked-left t at n (Ok tt) e =
       rw (le-ltb 65536 (length s) fit)
@@ -122,7 +121,7 @@ module _ (s : List ℕ) (fit : length s ≤ 65536) where
   checked-same (Err r) zs m e = refl
 
   over-left : (zs : List table.Row) (at n : ℕ)
-      → items_left s (view_of (start_with (rows_read zs)).router) (cursor_at at n (checked_stage (judge_rows (rows_read zs))))
+      → items_left s (view_of (router_left (start_with (rows_read zs)))) (cursor_at at n (checked_stage (judge_rows (rows_read zs))))
       ≡ checked_items (judge_table (reverse zs)) (reverse zs) (steps_at s n at)
   over-left zs at n =
       checked-left (rows_read zs) at n (judge_rows (rows_read zs)) refl

@@ -3,7 +3,7 @@ use Rattle.std.specs.Prelude.{ℕ, ◌+◌, ◌≡◌, Bool, true, false, cond, 
 use Rattle.tapa.specs.declared.Refusal.{Refusal}
 use Rattle.table.specs.declared.Rows.{Rows}
 use Rattle.table.specs.Table.{no_rows, with_row, judge_rows}
-use Rattle.start.specs.Start.{blank, start_with}
+use Rattle.start.specs.Start.{blank, start_with, router_left}
 use Rattle.fields.specs.Fields.{Script, torn, begins, row-then}
 use Rattle.fields.specs.Places.{script_at}
 use Rattle.run.specs.declared.Item.TheVariants.{Broken, Refused, TooLong}
@@ -35,7 +35,7 @@ abbrev pub cursor_at : (at number : ℕ) → Stage → Cursor
 cursor_at at n g = record { at = at; number = n; step = 1; tally = no_tally; stage = g }
 
 abbrev pub started_by : Heading → Session
-started_by h = record { cursor = cursor_at h.at h.number (stage_of h.torn h.number (judge_rows h.rows)); router = (start_with h.rows).router }
+started_by h = record { cursor = cursor_at h.at h.number (stage_of h.torn h.number (judge_rows h.rows)); router = router_left (start_with h.rows) }
 
 -- 'a longer input printing only `too long`'
 unfoldable pub start_of : List ℕ → Session

@@ -7,9 +7,10 @@
 
 ghost use Rattle.std.specs.Prelude.{◌≡◌, ◌≤◌, length};
 ghost use Rattle.table.specs.Table.{Held};
-ghost use Rattle.run.specs.Start.{heading_of, stage_of, started_by, Begins};
+ghost use Rattle.run.specs.Start.{heading_of, stage_of, cursor_at, started_by, Begins};
 
 use fields::NextRow;
+use router::Router;
 use run::{Cursor, Heading, Item, Session, Stage, Tally};
 use table::Row;
 use tapa::Refusal;
@@ -70,16 +71,11 @@ fn stage_after(torn: bool, number: usize, answer: Result<(), Refusal>) -> Stage
     }
 }
 
-// The table is checked, and the first line is number 1.
-fn started(heading: Heading) -> Session
-    requires { Held heading.rows }
-    ensures { result ≡ started_by heading }
+// The state after the rows, with a router: the first line is number 1.
+fn after_rows(heading: Heading, router: Router, answer: Result<(), Refusal>) -> Session
+    ensures cursor { result.cursor ≡ cursor_at heading.at heading.number (stage_of heading.torn heading.number answer) }
+    ensures router { result.router ≡ router }
 {
-    let rows = heading.rows;
-    let done = start::start_with(rows);
-    let answer = done.answer;
-    let router = done.router;
-    let stage = stage_after(heading.torn, heading.number, answer);
     Session {
         cursor: Cursor {
             at: heading.at,
@@ -90,9 +86,20 @@ fn started(heading: Heading) -> Session
                 answered: 0,
                 given: 0,
             },
-            stage,
+            stage: stage_after(heading.torn, heading.number, answer),
         },
         router,
+    }
+}
+
+// The table is checked. A refused one leaves a blank router.
+fn started(heading: Heading) -> Session
+    requires { Held heading.rows }
+    ensures { result ≡ started_by heading }
+{
+    match start::start_with(heading.rows) {
+        Ok(router) => after_rows(heading, router, Ok(())),
+        Err(refusal) => after_rows(heading, start::blank(), Err(refusal)),
     }
 }
 

@@ -12,17 +12,16 @@
 
 ghost use Rattle.std.specs.Prelude.{◌≡◌, ◌≤◌, ◌<◌, length, get_or, take};
 ghost use Rattle.lists.specs.Lists.{some_of, count as count_of};
-ghost use Rattle.table.specs.Table.{Narrow, rows_of, shaped, misshapen, repeats, is_multi, judge_table, judge_rows, no_row, rows_read};
+ghost use Rattle.table.specs.Table.{Narrow, rows_of, shaped, misshapen, repeats, is_multi, judge_table, judge_rows, rows_read};
 ghost use Rattle.setup.specs.Setup.{set_up_with, set_up_of};
 
 use table::{Row, Rows};
 use tapa::Refusal;
 
-// What set-up answers, and the rows of an accepted table; a refused one leaves none. Nobody makes one by
-// hand: `set_up`, `set_up_own` and `set_up_with` do.
+// An accepted table: its rows by value. Nobody makes one by hand: `set_up`, `set_up_own` and `set_up_with`
+// do, and answer a refusal for rows that are no table.
 #[derive(Clone, Copy)]
-pub struct SetUp {
-    answer: Result<(), Refusal>,
+pub struct Accepted {
     rows: Rows,
 }
 
@@ -105,13 +104,7 @@ pub fn check(rows: Rows) -> Result<(), Refusal>
 
 // ---- set-up
 
-impl SetUp {
-    pub fn answer(self) -> Result<(), Refusal>
-        ensures { result ≡ self.answer }
-    {
-        self.answer
-    }
-
+impl Accepted {
     pub fn rows(self) -> Rows
         ensures { result ≡ self.rows }
     {
@@ -120,17 +113,11 @@ impl SetUp {
 }
 
 // The work of set-up, over rows by value.
-pub fn set_up_with(rows: Rows) -> SetUp
+pub fn set_up_with(rows: Rows) -> Result<Accepted, Refusal>
     ensures { result ≡ set_up_with rows }
 {
-    let answer = check(rows);
-    match answer {
-        Ok(()) => SetUp { answer, rows },
-        Err(_) => SetUp {
-            answer,
-            rows: table::no_rows(),
-        },
-    }
+    check(rows)?;
+    Ok(Accepted { rows })
 }
 
 // ---- the lent rows
@@ -147,7 +134,7 @@ pub fn read_rows(rows: &[Row]) -> Rows
 }
 
 // Table set-up: the lent rows are read, and kept where they are a table.
-pub fn set_up(rows: &[Row]) -> SetUp
+pub fn set_up(rows: &[Row]) -> Result<Accepted, Refusal>
     ensures { result ≡ set_up_of rows.now }
 {
     set_up_with(read_rows(rows))
@@ -155,7 +142,7 @@ pub fn set_up(rows: &[Row]) -> SetUp
 
 // Set-up with the first rows of one's own. There is one place more than a table has, so that a
 // table that is too long can be lent too.
-pub fn set_up_own(rows: [Row; 17], count: usize) -> SetUp
+pub fn set_up_own(rows: [Row; 17], count: usize) -> Result<Accepted, Refusal>
     ensures { result ≡ set_up_of (take count rows) }
 {
     set_up(&rows[..count.min(17)])

@@ -127,10 +127,6 @@ judge_rows t = checks ((t.more, Err RowCountOrShape) ∷ []) (judge_table (held_
 
 -- ---- reading lent rows
 
--- what stands for a row past the end
-abbrev pub no_row : Row
-no_row = record { address = 0; opened = false }
-
 -- every row of a list, in order
 abbrev pub with_rows : Rows → List Row → Rows
 with_rows t [] = t

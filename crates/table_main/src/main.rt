@@ -41,10 +41,8 @@ fn say(rt: HostRuntime, number: u8) {
 }
 
 fn say_set_up(rt: HostRuntime, rows: [Row; 17], count: usize) {
-    let done = setup::set_up_own(rows, count);
-    let answer = done.answer();
-    match answer {
-        Ok(()) => say(rt, 0),
+    match setup::set_up_own(rows, count) {
+        Ok(_) => say(rt, 0),
         Err(refusal) => say(rt, tapa::number(refusal)),
     }
 }
@@ -93,6 +91,8 @@ fn main(rt: HostRuntime) {
     let rows = plenty();
     say_rows_and_shapes(rt, rows);
     say_repeats_and_multi(rt, rows);
-    let held = setup::set_up_own(rows, 16).rows();
-    say_look_ups(rt, held.cells(), held.count());
+    if let Ok(table) = setup::set_up_own(rows, 16) {
+        let held = table.rows();
+        say_look_ups(rt, held.cells(), held.count());
+    }
 }

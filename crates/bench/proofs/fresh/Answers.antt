@@ -6,8 +6,7 @@ use Rattle.router.specs.Router as router
 use Rattle.book.specs.Book as book
 use Rattle.book.specs.declared.Book.{Book}
 use Rattle.book.proofs.Tables.{fresh-law}
-use Rattle.start.specs.declared.Started.{Started}
-use Rattle.start.proofs.Starts.{start-law}
+use Rattle.start.proofs.Starts.{blank-law}
 use Rattle.bench.proofs.fresh.Goals as goal
 
 -- every part is fresh, and lawful
@@ -18,7 +17,7 @@ returns c =
         lawful = record {
           parts = record {
             queue = c.fresh-queue.ensures.holds.law;
-            router = subst (λ (s : Started). router.Lawful s.router) (sym c.start_with-begun.ensures) (start-law _ held);
+            router = subst router.Lawful (sym c.blank-router.ensures) blank-law;
             rows = held;
           };
           store = subst (λ (b : Book). book.Lawful b area) (sym c.fresh-book.ensures) (fresh-law area long);

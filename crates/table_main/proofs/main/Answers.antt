@@ -2,7 +2,6 @@
 use Rattle.std.proofs.Common.{ℕ, ◌≡◌, List, take, sym, ap, subst, ◌∙◌}
 use Rattle.table.specs.declared.Rows.{Rows}
 use Rattle.table.specs.Table.{Column, Held}
-use Rattle.setup.specs.declared.SetUp.{SetUp}
 use Rattle.setup.proofs.Settled.{lent-settled}
 use Rattle.table_main.proofs.main.Goals as goal
 
@@ -13,5 +12,4 @@ column-of t l n e d h = rw (e, d) h
 pub say_look_ups-requires : goal.say_look_ups-requires
 say_look_ups-requires c =
     column-of c.rows-held.result _ _ c.cells.ensures c.count.ensures
-    (subst Held (sym (c.rows-held.ensures ∙ ap (λ (u : SetUp). u.rows) c.set_up_own.ensures))
-    (lent-settled (take 16 c.plenty-rows.result)).held)
+    (subst Held (sym c.rows-held.ensures) (lent-settled (take 16 c.plenty-rows.result) _ (sym c.in-Ok.ensures)).held)
