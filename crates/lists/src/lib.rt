@@ -6,4 +6,3 @@
 // Where a list is kept newest first, an element's number is how many older ones there are. In an
 // array that is filled from the start, this number is the element's index.
 #![tactic(auto)]
-

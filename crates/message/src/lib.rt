@@ -17,4 +17,3 @@ pub struct Head {
     pub thread: u8,
     pub length: usize,
 }
-

@@ -94,8 +94,7 @@ pub fn on_slot(x: u64, handler: u16, thread: u8) -> bool
     ensures { result ≡ on_slot handler thread (unpack x) }
 {
     let place = place_of(x);
-    tapa::handler(place.asked) == handler
-        && (!tapa::is_multi(handler) || place.thread == thread)
+    tapa::handler(place.asked) == handler && (!tapa::is_multi(handler) || place.thread == thread)
 }
 
 // Whether it is an owing of the handler.
