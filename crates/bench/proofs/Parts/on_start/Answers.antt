@@ -14,5 +14,5 @@ pub returns-in-Ok : goal.returns-in-Ok
 returns-in-Ok c = record {
   queue = c.requires.queue;
   router = subst (λ (s : Result Router Refusal). router.Lawful (router_left s)) (sym c.in-Ok.ensures) (start-law _ c.requires.rows);
-  rows = subst (λ (t : Rows). Held t) (sym c.no_rows.ensures) none-held;
+  rows = subst (λ (t : Rows). Held t) (sym c.no_rows-next.ensures) none-held;
 }
