@@ -1,10 +1,12 @@
 -- Demand 3 holds of the code: of every run of the router, from every public start.
 use Prim.Native.Nat.{ℕ}
+use Rattle.std.specs.Prelude.{Result, Ok, Err}
 use mathlib.Core.Path.{◌≡◌, refl, sym, ap, ◌∙◌}
 use mathlib.Core.List.{List, [], ◌∷◌}
 use lib.ListN.{length, replicate}
 use Rattle.lists.specs.Lists.{some_of}
 use Rattle.lists.proofs.Tests.{split}
+use Rattle.tapa.specs.declared.Refusal.{Refusal}
 use Rattle.tapa.specs.Address.{handler_of}
 use Rattle.message.specs.Message.{message_of, response_of}
 use Rattle.table.specs.declared.Row.{Row}
@@ -13,7 +15,7 @@ use Rattle.table.specs.Table.{Held, no_rows, listed}
 use Rattle.table.proofs.Judged.{none-proper}
 use Rattle.table.proofs.Read.{none-held}
 use Rattle.setup.specs.declared.Accepted.{Accepted}
-use Rattle.setup.specs.Setup.{Settled}
+use Rattle.setup.specs.Setup.{set_up_with, set_up_of, Settled}
 use Rattle.places.specs.Places.{stands_in}
 use Rattle.rules.specs.View.{View}
 use Rattle.rules.specs.declared.Outcome.{Outcome}
@@ -22,7 +24,7 @@ use Rattle.rules.specs.Judge.{Call, message, give_up, replaced, judge, judge_rep
 use Rattle.rules.specs.Apply.{applied, written, sent}
 use Rattle.router.specs.declared.Router.{Router}
 use Rattle.router.specs.Router.{view_of, Lawful}
-use Rattle.start.specs.Start.{blank, start_from, start_with, start_of, router_left}
+use Rattle.start.specs.Start.{blank, start_from, started as started_router, start_with, start_of, router_left}
 use Rattle.start.proofs.Starts.{fresh-lawful, from-law, start-law, lent-law}
 use Rattle.history.specs.History.{Entry, goes_out}
 use Rattle.history.specs.Marks.{Honest}
@@ -39,11 +41,16 @@ blank-fresh = record { law = fresh-lawful no_rows none-held none-proper; no-plac
 pub start-from-fresh : (u : Accepted) → Settled u → Fresh (start_from u)
 start-from-fresh u s = record { law = from-law u s; no-places = refl }
 
+-- whatever set-up answers, no place is left
+none-left : (s : Result Accepted Refusal) → (view_of (router_left (started_router s))).places ≡ []
+none-left (Ok u) = refl
+none-left (Err k) = refl
+
 pub start-with-fresh : (t : Rows) → Held t → Fresh (router_left (start_with t))
-start-with-fresh t h = record { law = start-law t h; no-places = refl }
+start-with-fresh t h = record { law = start-law t h; no-places = none-left (set_up_with t) }
 
 pub start-fresh : (rows : List Row) → Fresh (router_left (start_of rows))
-start-fresh rows = record { law = lent-law rows; no-places = refl }
+start-fresh rows = record { law = lent-law rows; no-places = none-left (set_up_of rows) }
 
 -- ---- the bytes to send
 
