@@ -24,8 +24,8 @@ use Rattle.rules.specs.Judge.{Call, message, give_up, replaced, judge, judge_rep
 use Rattle.rules.specs.Apply.{applied, written, sent}
 use Rattle.router.specs.declared.Router.{Router}
 use Rattle.router.specs.Router.{view_of, Lawful}
-use Rattle.start.specs.Start.{blank, start_from, started as started_router, start_with, start_of, router_left}
-use Rattle.start.proofs.Starts.{fresh-lawful, from-law, start-law, lent-law}
+use Rattle.start.specs.Start.{blank, started as started_router, start_with, start_of, router_left}
+use Rattle.start.proofs.Starts.{fresh-lawful, left-law, start-law, lent-law}
 use Rattle.history.specs.History.{Entry, goes_out}
 use Rattle.history.specs.Marks.{Honest}
 use Rattle.history.specs.Opening.{rows_in}
@@ -38,13 +38,13 @@ use Rattle.demands.specs.Used.{Fresh, made, Used, started, routed, gave-up, was-
 pub blank-fresh : Fresh blank
 blank-fresh = record { law = fresh-lawful no_rows none-held none-proper; no-places = refl }
 
-pub start-from-fresh : (u : Accepted) → Settled u → Fresh (start_from u)
-start-from-fresh u s = record { law = from-law u s; no-places = refl }
-
 -- whatever set-up answers, no place is left
 none-left : (s : Result Accepted Refusal) → (view_of (router_left (started_router s))).places ≡ []
 none-left (Ok u) = refl
 none-left (Err k) = refl
+
+pub start-from-fresh : (s : Result Accepted Refusal) → ((u : Accepted) → s ≡ Ok u → Settled u) → Fresh (router_left (started_router s))
+start-from-fresh s f = record { law = left-law s f; no-places = none-left s }
 
 pub start-with-fresh : (t : Rows) → Held t → Fresh (router_left (start_with t))
 start-with-fresh t h = record { law = start-law t h; no-places = none-left (set_up_with t) }

@@ -1,5 +1,6 @@
 -- The three demands in one record: what an outsider opens first. proofs/Demands.antt has it as one theorem.
-use Rattle.std.specs.Prelude.{ℕ, ◌≡◌, List}
+use Rattle.std.specs.Prelude.{ℕ, ◌≡◌, List, Result, Ok}
+use Rattle.tapa.specs.declared.Refusal.{Refusal}
 use Rattle.table.specs.declared.Row.{Row}
 use Rattle.table.specs.declared.Rows.{Rows}
 use Rattle.table.specs.Table.{Held}
@@ -7,7 +8,7 @@ use Rattle.setup.specs.declared.Accepted.{Accepted}
 use Rattle.setup.specs.Setup.{Settled}
 use Rattle.router.specs.declared.Router.{Router}
 use Rattle.router.specs.Router.{view_of, Lawful}
-use Rattle.start.specs.Start.{blank, start_from, start_with, start_of, router_left}
+use Rattle.start.specs.Start.{blank, started, start_with, start_of, router_left}
 use Rattle.history.specs.Admitted.{Admitted}
 use Rattle.history.specs.History.{Entry}
 use Rattle.history.specs.Marks.{Honest}
@@ -60,7 +61,7 @@ pub record Demands : Type 0 where
   -- 3. Every public start hands back a fresh router, and every run of the code from a fresh router keeps the promise; each premise on marks is needed,
   -- and lets in what a stronger one would shut out
   pub blank-start : Fresh blank
-  pub start-from : (table : Accepted) → Settled table → Fresh (start_from table)
+  pub start-from : (set : Result Accepted Refusal) → ((table : Accepted) → set ≡ Ok table → Settled table) → Fresh (router_left (started set))
   pub start-with : (rows : Rows) → Held rows → Fresh (router_left (start_with rows))
   pub lent-start : (rows : List Row) → Fresh (router_left (start_of rows))
   pub kept : (first : Router) → Fresh first → (h : List Entry) (r : Router) → Used first h r → Kept first h r

@@ -27,7 +27,7 @@ fn begin() -> Result<Router, Refusal>
     };
     let mut rows = [till; 17];
     rows[1] = module;
-    Ok(start::start_from(setup::set_up_own(rows, 2)?))
+    start::start_from(setup::set_up_own(rows, 2))
 }
 
 // Sends a part on: here, as a line of hexadecimal digits.

@@ -1,7 +1,7 @@
 -- What a start hands back: over an accepted table a fresh router that keeps the law.
 use mathlib.Core.Path.{◌≡◌, refl, ap, ◌∙◌}
 use Rattle.tapa.specs.declared.Refusal.{Refusal}
-use Rattle.std.specs.Prelude.{Result, Ok, Err, ⊤}
+use Rattle.std.specs.Prelude.{Result, Ok, Err, IfOk, ⊤}
 use mathlib.Core.List.{List, reverse}
 use Rattle.table.specs.declared.Row.{Row}
 use Rattle.table.specs.declared.Rows.{Rows}
@@ -33,9 +33,13 @@ blank-law = fresh-lawful no_rows none-held none-proper
 pub from-law : (u : Accepted) → Settled u → Lawful (start_from u)
 from-law u s = fresh-lawful u.rows s.held s.proper
 
-left-law : (s : Result Accepted Refusal) → ((u : Accepted) → s ≡ Ok u → Settled u) → Lawful (router_left (started s))
+pub left-law : (s : Result Accepted Refusal) → ((u : Accepted) → s ≡ Ok u → Settled u) → Lawful (router_left (started s))
 left-law (Ok u) f = from-law u (f u refl)
 left-law (Err k) f = blank-law
+
+pub started-law : (s : Result Accepted Refusal) → ((u : Accepted) → s ≡ Ok u → Settled u) → IfOk (started s) Lawful
+started-law (Ok u) f = from-law u (f u refl)
+started-law (Err k) f = tt
 
 pub start-law : (t : Rows) → Held t → Lawful (router_left (start_with t))
 start-law t h = left-law (set_up_with t) (set-up-settled t h)

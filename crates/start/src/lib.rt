@@ -1,15 +1,15 @@
 // The start: a fresh router over a table that is accepted.
 //
 // A program that lends its rows sets the table up with `setup::set_up` or `setup::set_up_own`, and
-// starts here from the accepted table that it hands back. What a start requires of rows and of a table holds
-// of all there are: nobody makes one by hand (rooms table and setup). A refused table starts nothing; who
-// needs a router all the same takes the blank one.
+// starts here from what that hands back. What a start requires of rows and of a table holds of all there are:
+// nobody makes one by hand (rooms table and setup). A refused table starts nothing; who needs a router all
+// the same takes the blank one.
 #![tactic(auto)]
 
-ghost use Rattle.std.specs.Prelude.{◌≡◌};
+ghost use Rattle.std.specs.Prelude.{◌≡◌, Ok};
 ghost use Rattle.table.specs.Table.{Held};
 ghost use Rattle.setup.specs.Setup.{Settled};
-ghost use Rattle.start.specs.Start.{fresh_over, blank as blank_router, start_from, start_with};
+ghost use Rattle.start.specs.Start.{fresh_over, blank as blank_router, started, start_with};
 
 use router::Router;
 use setup::Accepted;
@@ -33,12 +33,12 @@ pub fn blank() -> Router
     fresh_over(table::no_rows())
 }
 
-// A fresh router over an accepted table.
-pub fn start_from(table: Accepted) -> Router
-    requires { Settled table }
-    ensures { result ≡ start_from table }
+// A fresh router over the table that set-up accepted; a refusal goes on.
+pub fn start_from(set: Result<Accepted, Refusal>) -> Result<Router, Refusal>
+    requires { (table : Accepted) → set ≡ Ok table → Settled table }
+    ensures { result ≡ started set }
 {
-    fresh_over(table.rows())
+    Ok(fresh_over(set?.rows()))
 }
 
 // A fresh router over rows by value, where they are a table.
@@ -46,5 +46,5 @@ pub fn start_with(rows: Rows) -> Result<Router, Refusal>
     requires { Held rows }
     ensures { result ≡ start_with rows }
 {
-    Ok(start_from(setup::set_up_with(rows)?))
+    start_from(setup::set_up_with(rows))
 }
