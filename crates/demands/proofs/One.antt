@@ -18,6 +18,7 @@ use Rattle.slots.proofs.Once.{one-slot-part}
 use Rattle.joiner.proofs.Once as joiner
 use Rattle.run.proofs.Once as run
 use Rattle.pages.proofs.Once as pages
+use Rattle.text.proofs.Once.{one-writes}
 use Rattle.forms.proofs.Once.{one-wording}
 use Rattle.hexes.proofs.Once as hexes
 use Rattle.demands.specs.One.{One, OneResult}
@@ -49,6 +50,7 @@ one-result = record {
   pack = queue.one-pack;
   queue = λ es start p q. queue.one-queue p q es start;
   lent-queue = λ es start s t l m. queue.one_lent l m s t es start;
+  lent-whole = λ q. (queue.lent-whole q).0;
   handle = λ q message before h k a b. events.one-handle q message before a b h k;
   slot-part = λ area s at n p q. one-slot-part area p q s at n;
   store-handle = store.one-handle;
@@ -64,6 +66,7 @@ one-result = record {
   session-next = run.one-next;
   session-next-in = run.one-next-in;
   fill-page = λ input w before p q a b. pages.one-fill-page input w before a b p q;
+  text-writes = one-writes;
   wording = one-wording;
   hex-read = hexes.one-read;
   hex-write = hexes.one-write;

@@ -23,7 +23,8 @@ use Rattle.router.specs.declared.Router.{Router}
 use Rattle.router.specs.declared.Routed.{Routed}
 use Rattle.router.specs.Router as router
 use Rattle.router.proofs.States.{determined}
-use Rattle.start.specs.Start.{router_left}
+use Rattle.table.specs.Table.{kept_by}
+use Rattle.start.specs.Start.{router_left, fresh_over}
 use Rattle.replies.specs.Replies.{response_to, answer_of, answer_after}
 use Rattle.queue.specs.declared.Queue.{Queue}
 use Rattle.queue.specs.Places as queue
@@ -208,6 +209,7 @@ refusing = record {
   write = λ d s kind t part before after w x k e. unwritten (writing_of part before) (message_of d s kind t part) before after x.buffer k (sym x.answer ∙ e);
   reply = λ h part before after a x k e. unwritten (writing_of part before) (response_to h part) before after x.reply k (refused-reply (writing_of part before) k (sym x.answer ∙ e));
   start = λ rows k e. ap router_left e;
+  session-start = λ h k e. ap (λ (c : Result ⊤ Refusal). fresh_over (kept_by c h.rows)) e;
   route = λ r g message before after out x. router-stays _ r g before after out x;
   give-up = λ r g thread address before after out x. router-stays _ r g before after out x;
   replaced = λ r g address out x. replaced-stays _ r g out x;

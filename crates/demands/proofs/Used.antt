@@ -25,7 +25,7 @@ use Rattle.rules.specs.Apply.{applied, written, sent}
 use Rattle.router.specs.declared.Router.{Router}
 use Rattle.router.specs.Router.{view_of, Lawful}
 use Rattle.start.specs.Start.{blank, started as started_router, start_with, start_of, router_left}
-use Rattle.start.proofs.Starts.{fresh-lawful, left-law, start-law, lent-law}
+use Rattle.start.proofs.Starts.{fresh-lawful, from-law, start-law, lent-law}
 use Rattle.history.specs.History.{Entry, goes_out}
 use Rattle.history.specs.Marks.{Honest}
 use Rattle.history.specs.Opening.{rows_in}
@@ -44,7 +44,7 @@ none-left (Ok u) = refl
 none-left (Err k) = refl
 
 pub start-from-fresh : (s : Result Accepted Refusal) → ((u : Accepted) → s ≡ Ok u → Settled u) → Fresh (router_left (started_router s))
-start-from-fresh s f = record { law = left-law s f; no-places = none-left s }
+start-from-fresh s f = record { law = from-law s f; no-places = none-left s }
 
 pub start-with-fresh : (t : Rows) → Held t → Fresh (router_left (start_with t))
 start-with-fresh t h = record { law = start-law t h; no-places = none-left (set_up_with t) }

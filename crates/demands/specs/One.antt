@@ -22,7 +22,7 @@ use Rattle.sending.specs.Sending.{Sending}
 use Rattle.replies.specs.Replies.{Replies}
 use Rattle.queue.specs.declared.Event.{Event}
 use Rattle.queue.specs.declared.Queue.{Queue}
-use Rattle.queue.specs.Places.{Packs, Stretch, queue_of, HoldsAt}
+use Rattle.queue.specs.Places.{Packs, Stretch, queue_of, stretch_of, HoldsAt}
 use Rattle.events.specs.Ring.{HandlingAt}
 use Rattle.store.specs.Store as store
 use Rattle.store.specs.declared.Handled.{Handled}
@@ -37,7 +37,9 @@ use Rattle.run.specs.declared.Went.{Went}
 use Rattle.run.specs.State.{Turns, turn_of}
 use Rattle.run.specs.Start as run
 use Rattle.pages.specs.Pages.{Paged}
-use Rattle.std.specs.declared.ops.Range.{Range}
+use Rattle.text.specs.declared.Writer.{Writer}
+use Rattle.text.specs.Text as text
+use Rattle.forms.specs.declared.Span.{Span}
 use Rattle.forms.specs.Forms.{Spans}
 use Rattle.hexes.specs.declared.Cursor as hexes
 use Rattle.hexes.specs.Reading.{Reads}
@@ -111,6 +113,7 @@ pub record OneResult : Type 0 where
   pub pack : (e : Event) → One (Packs e)
   pub queue : (events : List Event) (start : ℕ) → One (λ q. HoldsAt q events start)
   pub lent-queue : (events : List Event) (start : ℕ) → OneWith (λ (s : Stretch) (places : List ℕ). HoldsAt (queue_of places s) events start)
+  pub lent-whole : (q : Queue) → queue_of q.places (stretch_of q) ≡ q
   pub handle : (q : Queue) (message before : List ℕ) → OneWith (λ h after. HandlingAt q message before after h)
   -- store: the answer and the next book, the area, the reply buffer
   pub slot-part : (area : Bor (List ℕ)) (s at n : ℕ) → OnePart (λ (p : Bor (List ℕ)). SlotPart area p s at n)
@@ -135,8 +138,11 @@ pub record OneResult : Type 0 where
       → Turns input w (turn_of x' c' n l')
       → (x ≡ x') × (l ≡ l') × (c ≡ c')
   pub fill-page : (input : List ℕ) (w : Session) (before : List ℕ) → OneWith (λ p after. Paged input w before after p)
+  -- text: the buffer that a writer holds, its bytes and the place of the next one (all that writes by a writer: text, lines, show_forms, sentences)
+  pub text-writes : (p q r : Writer) (t : List ℕ) → text.Writes p q t → text.Writes p r t
+      → (q.bytes.ghost_name ≡ r.bytes.ghost_name) × (text.pen_of q ≡ text.pen_of r)
   -- forms: where a wording stands
-  pub wording : (sheet : List ℕ) (n : ℕ) → One (λ (p : Range ℕ). Spans sheet n p)
+  pub wording : (sheet : List ℕ) (n : ℕ) → One (λ (p : Span). Spans sheet n p)
   -- hexes
   pub hex-read : (text before : List ℕ) → OneWith (λ r after. Reads text before after r)
   pub hex-write : (c : hexes.Cursor) (part before : List ℕ) → OneWith (λ r after. Writes c part before after r)

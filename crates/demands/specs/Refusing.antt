@@ -14,6 +14,9 @@ use Rattle.router.specs.declared.Router.{Router}
 use Rattle.router.specs.declared.Routed.{Routed}
 use Rattle.router.specs.Router as router
 use Rattle.start.specs.Start.{blank, start_of, router_left}
+use Rattle.table.specs.Table.{judge_rows}
+use Rattle.run.specs.declared.Heading.{Heading}
+use Rattle.run.specs.Start.{started_by}
 use Rattle.replies.specs.Replies.{Replies}
 use Rattle.queue.specs.declared.Queue.{Queue}
 use Rattle.queue.specs.Places as queue
@@ -78,6 +81,8 @@ pub record Refusing : Type 0 where
   pub reply : (h : Head) (part before after : List ℕ) (a : Result (Option ℕ) Refusal) → Replies h part before after a → (k : Refusal) → a ≡ Err k → after ≡ before
   -- the table: a refused one leaves a router over no rows
   pub start : (rows : List Row) (k : Refusal) → start_of rows ≡ Err k → router_left (start_of rows) ≡ blank
+  -- and so it is in a session, which goes on with that router
+  pub session-start : (h : Heading) (k : Refusal) → judge_rows h.rows ≡ Err k → (started_by h).router ≡ blank
   -- the router
   pub route : (r : Router) → router.Lawful r → (message before after : List ℕ) (out : Routed) → router.Routes r message before after out → Stays r before after out
   pub give-up : (r : Router) → router.Lawful r → (thread address : ℕ) (before after : List ℕ) (out : Routed) → router.GivesUp r thread address before after out
