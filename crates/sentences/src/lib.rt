@@ -226,9 +226,11 @@ pub struct Teller<'a> {
 }
 
 impl<'a> Teller<'a> {
-    // Nothing is said yet.
+    // Nothing is said yet. What is said will be of this sheet, and stands in these words.
     pub fn new(words: &'a mut [u8], sheet: &'a [u8]) -> Teller<'a>
-        ensures { pen_of result.out ≡ pen words.old 0 }
+        ensures text { pen_of result.out ≡ pen words.old 0 }
+        ensures lent { result.out.bytes.ghost_name ≡ words.entry.ghost_name }
+        ensures sheet { result.sheet.now ≡ sheet.now }
     {
         let out = Writer::new(words, 0);
         Teller { out, sheet }
