@@ -12,13 +12,13 @@ use borrow.Table.Steps.{cases}
 use borrow.Author.Tests.{lt-ltb, le-ltb, ltb-false}
 use Rattle.table.specs.declared.Row as table
 use Rattle.table.specs.declared.Rows.{Rows}
-use Rattle.table.specs.Table.{held_rows, Held, no_rows, with_row, rows_read, judge_table, judge_rows}
+use Rattle.table.specs.Table.{held_rows, Held, no_rows, with_row, rows_read, judge_table, judge_rows, kept_by}
 use Rattle.table.proofs.Judged.{accepted, judge-reverse, none-proper}
 use Rattle.table.proofs.Read.{none-held, with-held, read_held, read-rows, read_next, judge-read}
 use Rattle.router.specs.declared.Router.{Router}
 use Rattle.router.specs.Router.{view_of}
-use Rattle.start.specs.Start.{blank, start_with, answer_of, router_left}
-use Rattle.start.proofs.Starts.{fresh-lawful, start-answers, start-law, start-view}
+use Rattle.start.specs.Start.{blank, fresh_over, start_with, answer_of, router_left}
+use Rattle.start.proofs.Starts.{fresh-lawful, start-answers, kept-law, kept-view, left-kept}
 use Rattle.rules.specs.View.{View}
 use Rattle.fields.specs.declared.NextRow.{NextRow}
 use Rattle.fields.specs.declared.NextRow.TheVariants.{Row, Torn, Over}
@@ -80,7 +80,8 @@ pub starts : (x : Heading) (d : Result Router Refusal) → d ≡ start_with x.ro
     → ◌≡◌ {A = Session} (record { cursor = cursor_at x.at x.number (stage_of x.torn x.number (answer_of d)); router = router_left d }) (started_by x)
 starts x d e =
     let k : answer_of d ≡ judge_rows x.rows = ap answer_of e ∙ start-answers x.rows in
-    λ i. record { cursor = cursor_at x.at x.number (stage_of x.torn x.number (k i)); router = router_left (e i) }
+    let r : router_left d ≡ fresh_over (kept_by (judge_rows x.rows) x.rows) = ap router_left e ∙ left-kept x.rows in
+    λ i. record { cursor = cursor_at x.at x.number (stage_of x.torn x.number (k i)); router = r i }
 
 -- ---- the state has these items, and keeps the law
 
@@ -106,11 +107,11 @@ small-checked (Err r) = tt
 -- zs are the rows read so far, in order
 module _ (s : List ℕ) (fit : length s ≤ 65536) where
   checked-left : (t : Rows) (at n : ℕ) (k : Result ⊤ Refusal) → judge_rows t ≡ k
-      → items_left s (view_of (router_left (start_with t))) (cursor_at at n (checked_stage k)) ≡ checked_items k (held_rows t) (steps_at s n at)
+      → items_left s (view_of (fresh_over (kept_by (judge_rows t) t))) (cursor_at at n (checked_stage k)) ≡ checked_items k (held_rows t) (steps_at s n at)
   unfolding items_left
   checked-left t at n (Ok tt) e =
       rw (le-ltb 65536 (length s) fit)
-      (ap (λ (v : View). items_from v no_tally 1 (steps_at s n at)) (start-view t e)
+      (ap (λ (v : View). items_from v no_tally 1 (steps_at s n at)) (kept-view t e)
       ∙ same-items (held_rows t) [] no_tally 1 (steps_at s n at) (record { accepted = refl; answered = refl; given = refl }))
   checked-left t at n (Err r) e = refl
 
@@ -121,7 +122,7 @@ module _ (s : List ℕ) (fit : length s ≤ 65536) where
   checked-same (Err r) zs m e = refl
 
   over-left : (zs : List table.Row) (at n : ℕ)
-      → items_left s (view_of (router_left (start_with (rows_read zs)))) (cursor_at at n (checked_stage (judge_rows (rows_read zs))))
+      → items_left s (view_of (fresh_over (kept_by (judge_rows (rows_read zs)) (rows_read zs)))) (cursor_at at n (checked_stage (judge_rows (rows_read zs))))
       ≡ checked_items (judge_table (reverse zs)) (reverse zs) (steps_at s n at)
   over-left zs at n =
       checked-left (rows_read zs) at n (judge_rows (rows_read zs)) refl
@@ -146,12 +147,12 @@ module _ (s : List ℕ) (fit : length s ≤ 65536) where
       (subst (λ (ys : List table.Row). Whole s (started_by (heading_by (rows_read (zs ++ (r ∷ []))) (n + 1) nx m)) (script_items ys m)) (reverse-append zs (r ∷ [])) g))
   rows_in zs n at Torn b a c f = record {
     left = refl;
-    ready = record { law = start-law (rows_read zs) (read_held zs); sound = sound-at at n (stage_of true n (judge_rows (rows_read zs))) (omega arith) c (omega arith) };
+    ready = record { law = kept-law (rows_read zs) (read_held zs); sound = sound-at at n (stage_of true n (judge_rows (rows_read zs))) (omega arith) c (omega arith) };
   }
   rows_in zs n at Over b a c f = record {
     left = over-left zs at n;
     ready = record {
-      law = start-law (rows_read zs) (read_held zs);
+      law = kept-law (rows_read zs) (read_held zs);
       sound = sound-at at n (checked_stage (judge_rows (rows_read zs))) (omega arith) c (small-checked (judge_rows (rows_read zs)));
     };
   }

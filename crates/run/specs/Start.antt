@@ -2,8 +2,8 @@
 use Rattle.std.specs.Prelude.{ℕ, ◌+◌, ◌≡◌, Bool, true, false, cond, List, ltb, length, Result, Ok, Err, ⊤}
 use Rattle.tapa.specs.declared.Refusal.{Refusal}
 use Rattle.table.specs.declared.Rows.{Rows}
-use Rattle.table.specs.Table.{no_rows, with_row, judge_rows}
-use Rattle.start.specs.Start.{blank, start_with, router_left}
+use Rattle.table.specs.Table.{no_rows, with_row, judge_rows, kept_by}
+use Rattle.start.specs.Start.{blank, fresh_over}
 use Rattle.fields.specs.Fields.{Script, torn, begins, row-then}
 use Rattle.fields.specs.Places.{script_at}
 use Rattle.run.specs.declared.Item.TheVariants.{Broken, Refused, TooLong}
@@ -34,8 +34,12 @@ stage_of b n k = cond b (Settled (Broken n)) (checked_stage k)
 abbrev pub cursor_at : (at number : ℕ) → Stage → Cursor
 cursor_at at n g = record { at = at; number = n; step = 1; tally = no_tally; stage = g }
 
+-- the router is over the rows that the table keeps: none where it is refused
 abbrev pub started_by : Heading → Session
-started_by h = record { cursor = cursor_at h.at h.number (stage_of h.torn h.number (judge_rows h.rows)); router = router_left (start_with h.rows) }
+started_by h = record {
+  cursor = cursor_at h.at h.number (stage_of h.torn h.number (judge_rows h.rows));
+  router = fresh_over (kept_by (judge_rows h.rows) h.rows);
+}
 
 -- 'a longer input printing only `too long`'
 unfoldable pub start_of : List ℕ → Session
