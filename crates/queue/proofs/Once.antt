@@ -12,7 +12,7 @@ use borrow.Author.Tests.{ltb-true, ltb-false}
 use Rattle.queue.specs.declared.Event.{Event}
 use Rattle.queue.specs.declared.Queue.{Queue}
 use Rattle.queue.specs.Events.{most}
-use Rattle.queue.specs.Places.{event_in, Packs, place_from, number_at, events_from, events_of, Stretch, queue_of, Lawful, HoldsAt}
+use Rattle.queue.specs.Places.{event_in, Packs, place_from, number_at, events_from, events_of, Stretch, queue_of, stretch_of, events_in, Lawful, HoldsAt}
 use Rattle.queue.proofs.Laws.{len, reached}
 
 -- 'It holds at most 100 events'
@@ -97,3 +97,7 @@ one_lent l m s t es start x y =
   where
     same-stretch : (a b i j : ℕ) → a ≡ b → i ≡ j → ◌≡◌ {A = Stretch} (record { start = a; count = i }) (record { start = b; count = j })
     same-stretch a b i j f g = cc
+
+-- a queue is its array with its stretch, so the same is left of each lent one
+pub lent-whole : (q : Queue) → (queue_of q.places (stretch_of q) ≡ q) × (events_in q.places (stretch_of q) ≡ events_of q)
+lent-whole q = (refl, refl)

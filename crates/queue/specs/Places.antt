@@ -55,6 +55,10 @@ pub record Stretch : Type 0 where
 abbrev pub queue_of : List ℕ → Stretch → Queue
 queue_of places s = record { places = places; start = s.start; count = s.count }
 
+-- the stretch of a queue: with its array it is the queue again
+abbrev pub stretch_of : Queue → Stretch
+stretch_of q = record { start = q.start; count = q.count }
+
 abbrev pub events_in : List ℕ → Stretch → List Event
 events_in places s = events_of (queue_of places s)
 
