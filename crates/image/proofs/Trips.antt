@@ -214,9 +214,16 @@ unfolding load_of load_area
 refused-flaw img area (Ok u) f e t = clash true refl e
 refused-flaw img area (Err x) f e t = (rw (t, f), rw (t, f))
 
-pub refused-untouched : (img area : List ℕ) → is_ok (load_of img area) ≡ false → (load_area img area ≡ area) × (loaded (load_of img area) ≡ book_of no_kinds [])
+refused-loaded : (img area : List ℕ) → is_ok (load_of img area) ≡ false → (load_area img area ≡ area) × (loaded (load_of img area) ≡ book_of no_kinds [])
 unfolding load_of load_area
-refused-untouched img area e = split (eqb (length area) 98048) (λ t. refused-flaw img area (verdict_of img) refl (rw t at e) t) (λ t. (rw t, rw t))
+refused-loaded img area e = split (eqb (length area) 98048) (λ t. refused-flaw img area (verdict_of img) refl (rw t at e) t) (λ t. (rw t, rw t))
+
+-- no book is handed out then, whatever the image says of one, and who goes on has one without files
+pub refused-untouched : (img area : List ℕ) → is_ok (load_of img area) ≡ false
+    → (load_area img area ≡ area) × (loaded (load_of img area) ≡ book_of no_kinds []) × ((b : Book) → load_of img area ≡ Ok b → ⊥)
+refused-untouched img area e =
+    let w = refused-loaded img area e in
+    (w.0, w.1, λ b f. clash (is_ok (load_of img area)) (ap (λ (r : Result Book Flaw). is_ok r) f) e)
 
 -- ---- an image is bytes
 
