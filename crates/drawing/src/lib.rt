@@ -30,23 +30,20 @@ const HUB: u16 = 324;
 
 // ---- forms
 
-// The forms of a part of the picture, in their order: each is 8 numbers of the list.
+// The forms of a part of the picture, in their order: each is 8 numbers of a list that is lent.
 #[derive(Drop)]
-pub struct Forms {
-    list: [usize; 2048],
+pub struct Forms<'a> {
+    list: &'a mut [usize; 2048],
     count: usize,
     ghost bounded: { count ≤ 256 },
 }
 
-impl Forms {
+impl<'a> Forms<'a> {
     // No form yet.
-    pub fn new() -> Forms
+    pub fn new(list: &'a mut [usize; 2048]) -> Forms<'a>
         ensures { result.count ≡ 0 }
     {
-        Forms {
-            list: [0; 2048],
-            count: 0,
-        }
+        Forms { list, count: 0 }
     }
 
     // One form more, where the list has room for it. Numbers that it does not have are 0.
@@ -56,14 +53,16 @@ impl Forms {
         }
         let at = self.count * 8;
         let there = form.len().min(8);
-        self.list[at..at + 8].fill(0);
-        self.list[at..at + there].copy_from_slice(&form[..there]);
+        let list = &mut *self.list;
+        list[at..at + 8].fill(0);
+        list[at..at + there].copy_from_slice(&form[..there]);
         self.count += 1;
     }
 
     // The numbers of the forms.
     fn drawn(&self) -> &[usize] {
-        &self.list[..self.count * 8]
+        let list = &self.list[..];
+        &list[..self.count * 8]
     }
 }
 
@@ -116,12 +115,22 @@ fn colour_of(thread: u8) -> usize
     usize::from(thread % 8)
 }
 
+// The code of what came, and 0 where it has none. Of bytes that do not read it is the length that they
+// announce.
+fn code_of(came: Arrival) -> u16 {
+    match came {
+        Arrival::Response { code, .. } => code.unwrap_or(0),
+        Arrival::Torn { head, .. } => (head.length % 65536) as u16,
+        _ => 0,
+    }
+}
+
 // ---- a row
 
 // What is drawn at a height of a page: where its forms go, the router that it shows, and its top.
 #[derive(Drop)]
-struct Row<'a> {
-    forms: &'a mut Forms,
+struct Row<'a, 'b> {
+    forms: &'a mut Forms<'b>,
     router: &'a Router,
     y: u16,
 }
@@ -135,7 +144,7 @@ struct Arrow {
     below: u16,
 }
 
-impl Row<'_> {
+impl Row<'_, '_> {
     fn add(&mut self, form: &[usize]) {
         self.forms.add(form);
     }
@@ -314,11 +323,21 @@ impl Row<'_> {
         self.draw_code(code);
     }
 
+    fn draw_event(&mut self, head: Head) {
+        self.draw_question(
+            stencil::EVENT,
+            head.source,
+            head.destination,
+            head.kind,
+            head.thread,
+        );
+    }
+
     // A reply that comes late ends at the router, in a filled square.
-    fn draw_swallowed(&mut self, asked: u16, thread: u8, code: u16) {
+    fn draw_swallowed(&mut self, head: Head, code: u16) {
         let arrow = Arrow {
-            colour: colour_of(thread),
-            from: self.lane_of(asked),
+            colour: colour_of(head.thread),
+            from: self.lane_of(head.source),
             to: HUB,
             below: 20,
         };
@@ -327,7 +346,7 @@ impl Row<'_> {
         self.add(&[stencil::SWALLOW, arrow.colour, usize::from(HUB) + 11, y]);
         self.draw_thread(arrow);
         self.draw_label(stencil::CODE_LABEL, usize::from(code), arrow);
-        self.draw_addresses(stencil::SWALLOWED, asked, asked);
+        self.draw_addresses(stencil::SWALLOWED, head.source, head.source);
         self.draw_code(code);
     }
 
@@ -408,60 +427,29 @@ impl Row<'_> {
     }
 
     fn draw_outcome(&mut self, came: Arrival, outcome: Outcome) {
-        match (outcome, came) {
-            (
-                Outcome::Passed {
-                    asker,
-                    asked,
-                    kind,
-                    thread,
-                },
-                _,
-            ) => {
-                self.draw_question(stencil::PASSED, asker, asked, kind, thread);
-            }
-            (
-                Outcome::Answered {
-                    asked,
-                    asker,
-                    thread,
-                    code,
-                },
-                _,
-            ) => {
-                self.draw_answered(asked, asker, thread, code);
-            }
-            (
-                Outcome::Swallowed { asked, thread },
-                Arrival::Response {
-                    code: Some(code),
-                    ..
-                },
-            ) => {
-                self.draw_swallowed(asked, thread, code);
-            }
-            (Outcome::Event, Arrival::Command(head)) => {
-                self.draw_question(
-                    stencil::EVENT,
-                    head.source,
-                    head.destination,
-                    head.kind,
-                    head.thread,
-                );
-            }
-            (Outcome::Turned { code, .. }, Arrival::Command(head)) => self.draw_turned(head, code),
-            (
-                Outcome::Given {
-                    asker,
-                    asked,
-                    thread,
-                },
-                _,
-            ) => self.draw_given(asker, asked, thread),
-            (Outcome::Reset { handler }, _) => self.draw_reset(handler),
-            (Outcome::Refused(refusal), _) => self.draw_refused(tapa::number(refusal)),
-            // no other step has such an outcome
-            (Outcome::Swallowed { .. } | Outcome::Event | Outcome::Turned { .. }, _) => {}
+        match outcome {
+            Outcome::Passed {
+                asker,
+                asked,
+                kind,
+                thread,
+            } => self.draw_question(stencil::PASSED, asker, asked, kind, thread),
+            Outcome::Answered {
+                asked,
+                asker,
+                thread,
+                code,
+            } => self.draw_answered(asked, asker, thread, code),
+            Outcome::Swallowed { .. } => self.draw_swallowed(came.head(), code_of(came)),
+            Outcome::Event => self.draw_event(came.head()),
+            Outcome::Turned { code, .. } => self.draw_turned(came.head(), code),
+            Outcome::Given {
+                asker,
+                asked,
+                thread,
+            } => self.draw_given(asker, asked, thread),
+            Outcome::Reset { handler } => self.draw_reset(handler),
+            Outcome::Refused(refusal) => self.draw_refused(tapa::number(refusal)),
         }
     }
 
@@ -543,7 +531,7 @@ impl Row<'_> {
 
 // ---- what `picture` asks for: the forms of a part
 
-impl Forms {
+impl Forms<'_> {
     // A row: what came and what became of it, with the router before and after. The first row of a page
     // begins it, and ends the one before.
     pub fn draw_row(
@@ -596,4 +584,31 @@ impl Forms {
         self.add(&[stencil::CLOSING]);
         self.drawn()
     }
+}
+
+// ---- the same in a list that is lent, with how many forms there are now in it as the answer
+
+// A row, with the router before and after.
+pub fn draw_row(
+    list: &mut [usize; 2048],
+    came: Arrival,
+    item: Item,
+    before: Router,
+    after: Router,
+    row: usize,
+    total: usize,
+) -> usize {
+    let mut forms = Forms::new(list);
+    let drawn = forms.draw_row(came, item, &before, &after, row, total);
+    drawn.len() / 8
+}
+
+// The beginning of the file.
+pub fn draw_opening(list: &mut [usize; 2048], total: usize) -> usize {
+    Forms::new(list).draw_opening(total).len() / 8
+}
+
+// The end of the file.
+pub fn draw_closing(list: &mut [usize; 2048]) -> usize {
+    Forms::new(list).draw_closing().len() / 8
 }

@@ -9,8 +9,6 @@
 // the last that is proved is that of crate `picture`. `show` writes each part once, in order.
 #![tactic(auto)]
 
-use drawing::Forms;
-
 // Draws the rows of one input; false where they cannot be written.
 fn show_rows(
     rt: HostRuntime,
@@ -18,11 +16,11 @@ fn show_rows(
     input: &[u8],
     total: usize,
     page: &mut [u8; 65536],
-    forms: &mut Forms,
+    list: &mut [usize; 2048],
 ) -> bool {
     let mut session = session_begun::begin(input);
     loop {
-        let filled = picture::fill_page(session, total, input, sheet, page, forms);
+        let filled = picture::fill_page(session, total, input, sheet, page, list);
         let used = filled.used;
         let all = &page[..];
         if !inputs::write(rt, b"ladder", &all[..used]) {
@@ -38,16 +36,16 @@ fn show_rows(
 // The page and the list of forms are made once, and lent.
 fn show(rt: HostRuntime, sheet: &[u8; 65536], input: &[u8]) {
     let mut page = io::large_buffer();
-    let mut forms = Forms::new();
+    let mut list = [0usize; 2048];
     let total = picture::count_rows(session_begun::begin(input), input);
-    let begun = picture::opening(total, sheet, &mut page, &mut forms);
+    let begun = picture::opening(total, sheet, &mut page, &mut list);
     if !inputs::write(rt, b"ladder", &page[..begun]) {
         return;
     }
-    if !show_rows(rt, sheet, input, total, &mut page, &mut forms) {
+    if !show_rows(rt, sheet, input, total, &mut page, &mut list) {
         return;
     }
-    let ended = picture::closing(sheet, &mut page, &mut forms);
+    let ended = picture::closing(sheet, &mut page, &mut list);
     inputs::write(rt, b"ladder", &page[..ended]);
 }
 

@@ -51,12 +51,13 @@ fn put_row(
     sheet: &[u8; 65536],
     session: &Session,
     turn: &Turn,
-    forms: &mut Forms,
+    list: &mut [usize; 2048],
 ) -> usize
     ensures { Added sheet.now page.old at page.new result }
 {
     let came = arrivals::arrival_at(input, session.cursor.at);
     let row = session.cursor.step.saturating_sub(1);
+    let mut forms = Forms::new(list);
     let drawn = forms.draw_row(
         came,
         turn.item,
@@ -75,7 +76,7 @@ pub fn fill_page(
     input: &[u8],
     sheet: &[u8; 65536],
     page: &mut [u8; 65536],
-    forms: &mut Forms,
+    list: &mut [usize; 2048],
 ) -> Page
     requires { Ready session }
     ensures { Part input.now session sheet.now page.new result }
@@ -91,7 +92,7 @@ pub fn fill_page(
                 next,
             };
         }
-        used = put_row(page, used, total, input, sheet, &next, &turn, forms);
+        used = put_row(page, used, total, input, sheet, &next, &turn, list);
         next = turn.next;
     }
     Page {
@@ -108,18 +109,20 @@ pub fn opening(
     total: usize,
     sheet: &[u8; 65536],
     page: &mut [u8; 65536],
-    forms: &mut Forms,
+    list: &mut [usize; 2048],
 ) -> usize
     ensures { Drawn sheet.now page.new result }
 {
+    let mut forms = Forms::new(list);
     let begun = forms.draw_opening(total);
     show_forms::put_list(page, 0, sheet, begun, begun.len() / 8)
 }
 
 // The end of the file.
-pub fn closing(sheet: &[u8; 65536], page: &mut [u8; 65536], forms: &mut Forms) -> usize
+pub fn closing(sheet: &[u8; 65536], page: &mut [u8; 65536], list: &mut [usize; 2048]) -> usize
     ensures { Drawn sheet.now page.new result }
 {
+    let mut forms = Forms::new(list);
     let ended = forms.draw_closing();
     show_forms::put_list(page, 0, sheet, ended, ended.len() / 8)
 }
