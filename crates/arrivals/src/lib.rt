@@ -4,6 +4,9 @@
 // here its parts are only laid side by side. What becomes of the step is not asked here.
 #![tactic(auto)]
 
+ghost use Rattle.std.specs.Prelude.{◌≡◌};
+ghost use Rattle.arrivals.specs.Arrivals.{call, head_of};
+
 use fields::NextStep;
 use message::Head;
 
@@ -20,6 +23,34 @@ pub enum Arrival {
     Replaced { address: u16 },
     // No step, or one that cannot be read.
     Nothing,
+}
+
+// The head of a call, which has a thread and an address alone.
+fn of_call(thread: u8, address: u16) -> Head
+    ensures { result ≡ call thread address }
+{
+    Head {
+        destination: address,
+        source: 0,
+        kind: 0,
+        thread,
+        length: 0,
+    }
+}
+
+impl Arrival {
+    // Its numbers, for whoever asks without regard to what came.
+    pub fn head(&self) -> Head
+        ensures { result ≡ head_of self.now }
+    {
+        match *self {
+            Arrival::Torn { head, .. } | Arrival::Command(head) | Arrival::Response { head, .. } =>
+                head,
+            Arrival::GiveUp { thread, address } => of_call(thread, address),
+            Arrival::Replaced { address } => of_call(0, address),
+            Arrival::Unread { .. } | Arrival::Nothing => of_call(0, 0),
+        }
+    }
 }
 
 // Bytes that do not read: what the first 8 of them say.

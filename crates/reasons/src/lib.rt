@@ -1,6 +1,6 @@
 // Reasons: why a command was turned back, or a step refused, in one line of words.
 //
-// The reason is read off the code or the refusal, and off the router as it was before the step: who had
+// The reason is read off the code or the number of the refusal, and off the router as it was before the step: who had
 // to answer whom, and who was closed or had no row. Where the code or the refusal says all there is to
 // say, there is no line.
 //
@@ -12,7 +12,6 @@ use message::Head;
 use place::Place;
 use router::Router;
 use sentences::Teller;
-use tapa::Refusal;
 
 // The oldest place that passes a test.
 fn find<F: Fn(u64) -> bool>(router: &Router, passes: F) -> Option<Place>
@@ -24,13 +23,18 @@ fn find<F: Fn(u64) -> bool>(router: &Router, passes: F) -> Option<Place>
         .map(|&x| router_tests::place_of(x))
 }
 
+// The same; where there is none it is one of zeros, so that a line is said all the same.
+fn find_or_zeros<F: Fn(u64) -> bool>(router: &Router, passes: F) -> Place
+    requires { F.IsAlwaysCallable passes }
+{
+    find(router, passes).unwrap_or(router_tests::place_of(0))
+}
+
 // ---- turned back
 
 // What keeps a handler busy.
 fn tell_taken(out: &mut Teller<'_>, router: &Router, handler: u16, thread: u8) {
-    let Some(place) = find(router, |x| router_tests::on_slot(x, handler, thread)) else {
-        return;
-    };
+    let place = find_or_zeros(router, |x| router_tests::on_slot(x, handler, thread));
     let form = if place.owed {
         sentences::OWES_REPLY
     } else {
@@ -75,7 +79,8 @@ fn tell_closed(out: &mut Teller<'_>, handler: u16) {
 }
 
 // Why a command was turned back, by its code.
-pub fn tell_turned(out: &mut Teller<'_>, router: &Router, head: Head, code: u16) {
+pub fn tell_turned(out: &mut Teller<'_>, router: &Router, came: Arrival, code: u16) {
+    let head = came.head();
     let handler = tapa::handler(head.destination);
     let name = names::category_name(head.destination);
     match code {
@@ -92,7 +97,14 @@ pub fn tell_turned(out: &mut Teller<'_>, router: &Router, head: Head, code: u16)
 
 // ---- refused
 
-// The source of a message, or the address of a replaced call, has no row.
+// Who has to have a row: the source of a message, or the address of a replaced call.
+fn speaker(came: Arrival) -> u16 {
+    match came {
+        Arrival::Replaced { address } => address,
+        _ => came.head().source,
+    }
+}
+
 fn tell_unlisted(out: &mut Teller<'_>, address: u16) {
     let handler = tapa::handler(address);
     out.say(&[sentences::NO_SUCH, usize::from(handler)]);
@@ -101,10 +113,9 @@ fn tell_unlisted(out: &mut Teller<'_>, address: u16) {
 // A handler that waits for somebody itself on the thread.
 fn tell_waits(out: &mut Teller<'_>, router: &Router, address: u16, thread: u8) {
     let handler = tapa::handler(address);
-    if let Some(place) = find(router, |x| router_tests::holds_on(x, thread, handler)) {
-        let asked = usize::from(place.asked);
-        out.say(&[sentences::STILL_WAITS, usize::from(address), asked]);
-    }
+    let place = find_or_zeros(router, |x| router_tests::holds_on(x, thread, handler));
+    let asked = usize::from(place.asked);
+    out.say(&[sentences::STILL_WAITS, usize::from(address), asked]);
 }
 
 // Whether it is a wait of this thread that asks this handler, by either of its addresses.
@@ -135,9 +146,8 @@ fn tell_stray(out: &mut Teller<'_>, router: &Router, address: u16, thread: u8) {
 
 // Who asked.
 fn tell_asker(out: &mut Teller<'_>, router: &Router, address: u16, thread: u8) {
-    if let Some(place) = find(router, |x| router_tests::asks_exactly(x, address, thread)) {
-        out.say(&[sentences::ASKED_BY, usize::from(place.asker)]);
-    }
+    let place = find_or_zeros(router, |x| router_tests::asks_exactly(x, address, thread));
+    out.say(&[sentences::ASKED_BY, usize::from(place.asker)]);
 }
 
 // The event queue has no row, or is closed.
@@ -153,9 +163,7 @@ fn tell_no_queue(out: &mut Teller<'_>, router: &Router) {
 // The open question that a device stands in.
 fn tell_stands(out: &mut Teller<'_>, router: &Router, address: u16) {
     let handler = tapa::handler(address);
-    let Some(place) = find(router, |x| router_tests::has_open(x, handler)) else {
-        return;
-    };
+    let place = find_or_zeros(router, |x| router_tests::has_open(x, handler));
     let asker = usize::from(place.asker);
     let asked = usize::from(place.asked);
     let thread = usize::from(place.thread);
@@ -166,34 +174,18 @@ fn tell_stands(out: &mut Teller<'_>, router: &Router, address: u16) {
     }
 }
 
-// Why a message was refused.
-fn tell_message(out: &mut Teller<'_>, router: &Router, head: Head, refusal: Refusal) {
-    let source = head.source;
-    match refusal {
-        Refusal::NotInTable => tell_unlisted(out, source),
-        Refusal::StrayResponse => tell_stray(out, router, source, head.thread),
-        Refusal::WrongAsker => tell_asker(out, router, source, head.thread),
-        Refusal::EventCannotBeTaken => tell_no_queue(out, router),
-        _ => {}
-    }
-}
-
-// Why a step was refused.
-pub fn tell_refused(out: &mut Teller<'_>, router: &Router, came: Arrival, refusal: Refusal) {
-    match (came, refusal) {
-        (Arrival::Command(head) | Arrival::Response { head, .. }, _) => {
-            tell_message(out, router, head, refusal);
-        }
-        (Arrival::GiveUp { thread, address }, Refusal::NothingToGiveUp) => {
-            tell_unasked(out, router, address, thread);
-        }
-        (Arrival::GiveUp { thread, address }, Refusal::HoldsAQuestion) => {
-            tell_waits(out, router, address, thread);
-        }
-        (Arrival::Replaced { address }, Refusal::NotInTable) => tell_unlisted(out, address),
-        (Arrival::Replaced { address }, Refusal::StandsInAWait) => {
-            tell_stands(out, router, address);
-        }
+// Why a step was refused, by its number; of a number that has no reason here nothing is said.
+pub fn tell_refused(out: &mut Teller<'_>, router: &Router, came: Arrival, number: u8) {
+    let head = came.head();
+    let (asker, asked, thread) = (head.source, head.destination, head.thread);
+    match number {
+        4 => tell_unlisted(out, speaker(came)),
+        7 => tell_stray(out, router, asker, thread),
+        8 => tell_asker(out, router, asker, thread),
+        10 => tell_no_queue(out, router),
+        14 => tell_unasked(out, router, asked, thread),
+        16 => tell_stands(out, router, asked),
+        20 => tell_waits(out, router, asked, thread),
         _ => {}
     }
 }

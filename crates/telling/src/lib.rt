@@ -175,11 +175,11 @@ fn tell_all_threads(out: &mut Teller<'_>, router: &Router) {
 
 // ---- what became of it
 
-fn tell_turned(out: &mut Teller<'_>, head: Head, code: u16, before: &Router) {
+fn tell_turned(out: &mut Teller<'_>, came: Arrival, code: u16, before: &Router) {
     let name = names::code_name(code);
-    let asker = usize::from(head.source);
+    let asker = usize::from(came.head().source);
     out.say(&[sentences::TURNED, asker, usize::from(code), name]);
-    reasons::tell_turned(out, before, head, code);
+    reasons::tell_turned(out, before, came, code);
 }
 
 fn tell_given(out: &mut Teller<'_>, asker: u16, asked: u16) {
@@ -212,9 +212,10 @@ fn tell_answered(out: &mut Teller<'_>, asked: u16, asker: u16, before: &Router, 
 }
 
 fn tell_refused(out: &mut Teller<'_>, came: Arrival, refusal: Refusal, before: &Router) {
-    let name = names::refusal_name(tapa::number(refusal));
+    let number = tapa::number(refusal);
+    let name = names::refusal_name(number);
     out.say(&[sentences::REFUSED, name]);
-    reasons::tell_refused(out, before, came, refusal);
+    reasons::tell_refused(out, before, came, number);
 }
 
 // What became of a step.
@@ -230,12 +231,7 @@ fn tell_outcome(
         Outcome::Answered { asked, asker, .. } => tell_answered(out, asked, asker, before, after),
         Outcome::Swallowed { asked, .. } => out.say(&[sentences::SWALLOWED, usize::from(asked)]),
         Outcome::Event => out.say(&[sentences::EVENT]),
-        Outcome::Turned { code, .. } => {
-            // nothing but a command is turned back
-            if let Arrival::Command(head) = came {
-                tell_turned(out, head, code, before);
-            }
-        }
+        Outcome::Turned { code, .. } => tell_turned(out, came, code, before),
         Outcome::Given { asker, asked, .. } => tell_given(out, asker, asked),
         Outcome::Reset { handler } => {
             out.say(&[sentences::RESET, usize::from(handler)]);
