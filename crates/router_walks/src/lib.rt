@@ -1,7 +1,9 @@
 // What the list of places is asked: which wait a response or a give up is about, what is owed, where
 // a handler stands, and whether it is taken.
 //
-// A walk goes over the lent list once and changes nothing. Room places says what the answers mean,
+// A walk goes over the lent list once, from its newest place on, and changes nothing: what is asked about
+// is mostly among the newest. (Only a leaf takes two walks, and the first of them ends where it is found.)
+// Room places says what the answers mean,
 // room router_tests what is asked of one place.
 #![tactic(auto)]
 
@@ -50,15 +52,23 @@ pub fn leaf_at(list: &[u64; 48], n: usize, asked: u16, thread: u8) -> Result<usi
     Ok(at)
 }
 
-// Where a handler stands to a thread's tree: whether it is in it, and else whether there is one at all.
+// Where a handler stands to a thread's tree: one walk from the newest place tells whether it is in it, and
+// whether there is one at all. It stops at the innermost question, where the next asker mostly stands.
 pub fn standing_of(list: &[u64; 48], n: usize, thread: u8, handler: u16) -> Standing
     requires { Lawful list.now n }
     ensures { result ≡ standing_of thread handler (places_of list.now n) }
 {
-    if stands_on(list, n, thread, handler) {
-        return Standing::Within;
+    let mut waits = false;
+    for newer in 0..n {
+        let x = list[n - newer - 1];
+        if router_tests::has_on(x, thread, handler) {
+            return Standing::Within;
+        }
+        if router_tests::open_on(x, thread) {
+            waits = true;
+        }
     }
-    if list[..n].iter().any(|x| router_tests::open_on(*x, thread)) {
+    if waits {
         return Standing::Outside;
     }
     Standing::Empty
@@ -83,7 +93,8 @@ pub fn stands_on(list: &[u64; 48], n: usize, thread: u8, handler: u16) -> bool
 {
     list[..n]
         .iter()
-        .any(|x| router_tests::has_on(*x, thread, handler))
+        .rposition(|x| router_tests::has_on(*x, thread, handler))
+        .is_some()
 }
 
 // Whether a handler stands in a wait of any thread as asker or asked.
@@ -93,7 +104,8 @@ pub fn stands_in(list: &[u64; 48], n: usize, handler: u16) -> bool
 {
     list[..n]
         .iter()
-        .any(|x| router_tests::has_open(*x, handler))
+        .rposition(|x| router_tests::has_open(*x, handler))
+        .is_some()
 }
 
 // Whether a handler is asked or owing: a single one on any thread, a multi one on this thread.
@@ -103,5 +115,6 @@ pub fn taken(list: &[u64; 48], n: usize, handler: u16, thread: u8) -> bool
 {
     list[..n]
         .iter()
-        .any(|x| router_tests::on_slot(*x, handler, thread))
+        .rposition(|x| router_tests::on_slot(*x, handler, thread))
+        .is_some()
 }

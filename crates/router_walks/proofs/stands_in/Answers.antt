@@ -1,13 +1,14 @@
--- Some cell in use passes where some place does.
-use Rattle.std.proofs.Common.{rules, arith, ◌∙◌, take}
-use Rattle.std.proofs.lemmas.Iterator.{YieldsList-from_slice}
-use Rattle.std.proofs.lemmas.Iterator.Search.{any_from_yields_List}
-use Rattle.places.specs.Places.{unpack, stands_in}
-use Rattle.lists.proofs.Walks.{some-any}
+-- Some place passes where the newest that does was found.
+use Rattle.std.proofs.Common.{rules, arith, ap, ◌∙◌}
+use Rattle.std.specs.Prelude.{is_some}
+use Rattle.places.specs.Places.{unpack, places_of, stands_in}
+use Rattle.lists.proofs.Walks.{newest}
+use Rattle.router_walks.proofs.Found.{found-some}
 use Rattle.router_walks.proofs.stands_in.Goals as goal
 
 pub returns : goal.returns
 returns c =
     let a = c.args in
-    any_from_yields_List (λ x. stands_in a.handler (unpack x)) _ _ _ c.any.ensures.ran (YieldsList-from_slice (take a.n a.list.now) (search rules)) (λ x b q k. search rules)
-    ∙ some-any unpack (stands_in a.handler) a.list.now a.n (omega arith)
+    let u = c.rposition.ensures.runs.0 in
+    let e = newest unpack (stands_in a.handler) a.list.now a.n _ (omega arith) (search rules) (λ x b k. search rules) u _ (c.iter.ensures.runs_back u u.seen) (search rules) _ (search rules) _ c.rposition.ensures.bound c.rposition.ensures.runs.2 in
+    c.is_some.ensures ∙ ap (λ r. is_some r) e ∙ found-some (stands_in a.handler) (places_of a.list.now a.n)
