@@ -2,7 +2,7 @@
 use Rattle.std.specs.Prelude.{ℕ, zero, suc, ◌+◌, ◌*◌, ◌/◌, ◌%◌, ◌≤◌, ◌-◌, ◌≡◌, Bool, ◌&&◌, cond, List, [], ◌∷◌, ◌++◌, eqb, ltb, leb, length, take, drop, get_or}
 use Rattle.lists.specs.Lists.{checks, some_of}
 use Rattle.text.specs.Text.{Pen, pen, puts, decimal_of, hex_of, word_hex_of}
-use Rattle.std.specs.declared.ops.Range.{Range}
+use Rattle.forms.specs.declared.Span.{Span}
 
 -- ---- the sheet: cells of 128 bytes, at most 512 of them
 
@@ -98,14 +98,14 @@ abbrev pub end_of : List ℕ → ℕ → ℕ
 end_of s start = start + length (worded (cell_from s start))
 
 -- one that is not there stands at the sheet's start, and has no byte
-unfoldable pub span_of : List ℕ → ℕ → Range ℕ
+unfoldable pub span_of : List ℕ → ℕ → Span
 span_of s n =
     cond (ltb n 512 && leb (n * 128 + 128) (length s))
     (record { start = n * 128; end = end_of s (n * 128) })
     (record { start = 0; end = 0 })
 
 -- the contract of `wording`: where it stands; and that the wording is what stands there
-pub record Spans (s : List ℕ) (n : ℕ) (p : Range ℕ) : Type 0 where
+pub record Spans (s : List ℕ) (n : ℕ) (p : Span) : Type 0 where
   pub same : p ≡ span_of s n
   pub text : take (p.end - p.start) (drop p.start s) ≡ wording_of s n
   pub order : p.start ≤ p.end

@@ -24,3 +24,10 @@ pub struct Nib {
     pub cell: usize,
     pub at: usize,
 }
+
+// Where a wording stands in its sheet.
+#[derive(Clone, Copy)]
+pub struct Span {
+    pub start: usize,
+    pub end: usize,
+}

@@ -25,7 +25,8 @@ fn is_hole(byte: u8) -> bool
 fn put_wording(out: &mut Writer<'_>, sheet: &[u8], n: usize)
     ensures { Writes out.old out.new (wording_of sheet.now n) }
 {
-    out.put_all(&sheet[show_sheet::wording(sheet, n)]);
+    let span = show_sheet::wording(sheet, n);
+    out.put_all(&sheet[span.start..span.end]);
 }
 
 // One byte of a wording, or what fills its hole.
@@ -55,7 +56,8 @@ fn value_at(form: &[usize], k: usize) -> usize
 pub fn put_form(out: &mut Writer<'_>, sheet: &[u8], form: &[usize])
     ensures { Writes out.old out.new (form_text sheet.now form.now) }
 {
-    let wording = &sheet[show_sheet::wording(sheet, value_at(form, 0))];
+    let span = show_sheet::wording(sheet, value_at(form, 0));
+    let wording = &sheet[span.start..span.end];
     let mut k = 1;
     for byte in wording {
         put_part(out, sheet, *byte, value_at(form, k));

@@ -9,8 +9,7 @@ ghost use Rattle.std.specs.List.{position};
 ghost use Rattle.text.specs.Text.{pen};
 ghost use Rattle.forms.specs.Forms.{Spans, stylus, nibbed, engraved};
 
-use forms::Nib;
-use std::ops::Range;
+use forms::{Nib, Span};
 use text::Writer;
 
 // ---- written
@@ -60,13 +59,14 @@ fn wording_end(cell: &[u8]) -> Option<usize>
 }
 
 // Where the wording of a cell stands. One that is not there has no byte.
-pub fn wording(sheet: &[u8], n: usize) -> Range<usize>
+pub fn wording(sheet: &[u8], n: usize) -> Span
     ensures { Spans sheet.now n result }
 {
     if n >= 512 || sheet.len() < n * 128 + 128 {
-        return 0..0;
+        return Span { start: 0, end: 0 };
     }
     let start = n * 128;
     let cell = &sheet[start..start + 128];
-    start..start + wording_end(cell).unwrap_or(128)
+    let end = start + wording_end(cell).unwrap_or(128);
+    Span { start, end }
 }
