@@ -76,5 +76,9 @@ pub fn take(queue: &mut Queue, event: Event)
 pub fn clear(queue: &mut Queue)
     ensures { HoldsAt queue.new [] 0 }
 {
-    *queue = event_ring::fresh();
+    *queue = Queue {
+        places: [0; 100],
+        start: 0,
+        count: 0,
+    };
 }
