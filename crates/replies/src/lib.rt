@@ -54,5 +54,6 @@ pub fn with_part(reply: &mut [u8], head: Head, part: &[u8]) -> Result<Option<usi
 pub fn with_code(reply: &mut [u8], head: Head, code: u16) -> Result<Option<usize>, Refusal>
     ensures { Replies head (two_bytes code) reply.old reply.new result }
 {
-    with_part(reply, head, &code.to_be_bytes())
+    let [high, low] = code.to_be_bytes();
+    with_part(reply, head, &[high, low])
 }

@@ -15,6 +15,9 @@ ghost use Rattle.numbers.specs.Free.{free_in};
 
 use tapa::Refusal;
 
+// Threads are 0 to 7.
+const LAST_THREAD: u8 = 7;
+
 // ---- where a number stands
 
 // The cell of the handler in a row.
@@ -96,7 +99,7 @@ pub fn is_free(
     let Some(row) = router_rows::row_of(cells, count, handler) else {
         return Err(Refusal::NotInTable);
     };
-    if 7 < thread {
+    if LAST_THREAD < thread {
         return Err(Refusal::ThreadAbove7);
     }
     Ok(numbers[cell_in(row, handler, thread)] == 0)

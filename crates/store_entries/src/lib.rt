@@ -195,6 +195,13 @@ pub fn free_slot(b: Book) -> u16
     lowest_unset(&used, 0)
 }
 
+// Whether an entry is a record of this file.
+fn is_of(entry: Entry, f: u16) -> bool
+    ensures { result ≡ in_file f entry }
+{
+    entry.file == f
+}
+
 // The lowest pointer that no entry of file f has.
 pub fn free_pointer(b: Book, f: u16) -> u16
     requires { Shaped b }
@@ -202,7 +209,7 @@ pub fn free_pointer(b: Book, f: u16) -> u16
 {
     let mut used = [false; 257];
     for x in &b.entries[..b.count] {
-        if x.file == f {
+        if is_of(*x, f) {
             mark(&mut used, x.pointer);
         }
     }

@@ -38,7 +38,8 @@ impl<'a> Writer<'a> {
     pub fn place(&self) -> usize
         ensures { result ≡ self.now.at }
     {
-        self.at
+        let place = self.at;
+        place
     }
 
     // Writes one byte.

@@ -13,9 +13,9 @@ pub returns-in_default : goal.returns-in_default
 unfolding free_in
 returns-in_default c = rw (← c.handler-handler.ensures, ← c.row_of.ensures, c.in_default.is)
 
-pub returns-then-thread-gt7 : goal.returns-then-thread-gt7
+pub returns-then-thread-gt-LAST_THREAD : goal.returns-then-thread-gt-LAST_THREAD
 unfolding free_in
-returns-then-thread-gt7 c = rw (← c.handler-handler.ensures, ← c.in-Some.ensures, lt-ltb 7 _ c.if-thread-gt7.true)
+returns-then-thread-gt-LAST_THREAD c = rw (← c.handler-handler.ensures, ← c.in-Some.ensures, lt-ltb 7 _ c.if-thread-gt-LAST_THREAD.true)
 
 pub cell_in-requires : goal.cell_in-requires
 cell_in-requires c =
@@ -29,7 +29,7 @@ low false t l = omega arith
 pub bounds-numbers-cell_in : goal.bounds-numbers-cell_in
 bounds-numbers-cell_in c =
     let a = c.args in
-    omega (arith, c.cell_in.ensures, c.requires, len unpack a.cells.now a.count, find-inside (is_at c.handler-handler.result) (rows_of a.cells.now a.count) _ (sym c.in-Some.ensures), low (multi c.handler-handler.result) a.thread (omega (arith, c.if-thread-gt7.false)))
+    omega (arith, c.cell_in.ensures, c.requires, len unpack a.cells.now a.count, find-inside (is_at c.handler-handler.result) (rows_of a.cells.now a.count) _ (sym c.in-Some.ensures), low (multi c.handler-handler.result) a.thread (omega (arith, c.if-thread-gt-LAST_THREAD.false)))
 
 -- yes where the number is 0
 told : (b : Bool) → ◌≡◌ {A = Result Bool Refusal} (Ok b) (cond b (Ok true) (Ok false))
@@ -39,5 +39,5 @@ told false = refl
 pub returns : goal.returns
 unfolding free_in
 returns c =
-    rw (← c.handler-handler.ensures, ← c.in-Some.ensures, le-ltb 7 c.args.thread (omega (arith, c.if-thread-gt7.false)), ← c.cell_in.ensures)
+    rw (← c.handler-handler.ensures, ← c.in-Some.ensures, le-ltb 7 c.args.thread (omega (arith, c.if-thread-gt-LAST_THREAD.false)), ← c.cell_in.ensures)
     (told (nat_eq (get_or c.args.numbers.now c.cell_in.result 0) 0))
