@@ -29,8 +29,9 @@ use Rattle.layout.proofs.Verdicts.{Imaged, is-whole, whole_is}
 use Rattle.layout.specs.Judged.{count_in, entries_in, slots_in, table_in, verdict_of}
 use Rattle.layout.specs.Layout.{body_of, flat, sealed, size_of, sum_bytes}
 use Rattle.layout.specs.declared.Flaw.{Flaw}
+use Rattle.layout.specs.declared.Flaw.TheVariants.{Area}
 use Rattle.lists.proofs.Bytes.{bytes_drop}
-use Rattle.lists.proofs.Tests.{clash, split}
+use Rattle.lists.proofs.Tests.{clash, split, differ}
 use Rattle.lists.specs.Lists.{All, Bytes, count}
 
 -- ---- what is saved is loaded again
@@ -214,16 +215,17 @@ unfolding load_of load_area
 refused-flaw img area (Ok u) f e t = clash true refl e
 refused-flaw img area (Err x) f e t = (rw (t, f), rw (t, f))
 
-refused-loaded : (img area : List ℕ) → is_ok (load_of img area) ≡ false → (load_area img area ≡ area) × (loaded (load_of img area) ≡ book_of no_kinds [])
+pub refused-untouched : (img area : List ℕ) → is_ok (load_of img area) ≡ false → (load_area img area ≡ area) × (loaded (load_of img area) ≡ book_of no_kinds [])
 unfolding load_of load_area
-refused-loaded img area e = split (eqb (length area) 98048) (λ t. refused-flaw img area (verdict_of img) refl (rw t at e) t) (λ t. (rw t, rw t))
+refused-untouched img area e = split (eqb (length area) 98048) (λ t. refused-flaw img area (verdict_of img) refl (rw t at e) t) (λ t. (rw t, rw t))
 
--- no book is handed out then, whatever the image says of one, and who goes on has one without files
-pub refused-untouched : (img area : List ℕ) → is_ok (load_of img area) ≡ false
-    → (load_area img area ≡ area) × (loaded (load_of img area) ≡ book_of no_kinds []) × ((b : Book) → load_of img area ≡ Ok b → ⊥)
-refused-untouched img area e =
-    let w = refused-loaded img area e in
-    (w.0, w.1, λ b f. clash (is_ok (load_of img area)) (ap (λ (r : Result Book Flaw). is_ok r) f) e)
+-- and of an image that is bent no book is handed out, whatever it says of one
+pub refused-bent : (img area : List ℕ) (k : Flaw) → verdict_of img ≡ Err k → (b : Book) → load_of img area ≡ Ok b → ⊥
+unfolding load_of
+refused-bent img area k v b f =
+    split (eqb (length area) 98048)
+    (λ t. let z : ◌≡◌ {A = Result Book Flaw} (Err k) (Ok b) = rw (t, v) at f in differ (cc))
+    (λ t. let z : ◌≡◌ {A = Result Book Flaw} (Err Area) (Ok b) = rw t at f in differ (cc))
 
 -- ---- an image is bytes
 

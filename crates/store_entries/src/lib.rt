@@ -15,12 +15,19 @@ use book::{Book, Entry, Kind};
 
 // ---- whole books
 
+// A row of no file.
+const NO_FILE: Kind = Kind {
+    made: false,
+    keymax: 0,
+    recmax: 0,
+};
+
 // A book without files.
 pub fn fresh() -> Book
     ensures { result ≡ book_of no_kinds [] }
 {
     Book {
-        kinds: [Kind::default(); 16],
+        kinds: [NO_FILE; 16],
         entries: [Entry::default(); 256],
         count: 0,
     }
